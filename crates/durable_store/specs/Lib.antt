@@ -1,11 +1,6 @@
-pub mod Fit
-pub mod Given
-pub mod Restored
-pub mod Turns
-pub mod States
-pub mod Standing
-pub mod Calls
 pub mod Disks
-pub mod Wholes
-pub mod Lives
-pub mod Exact
+pub mod Stores
+pub mod Runs
+pub mod Opens
+pub mod BookRuns
+pub mod Streams

@@ -1,92 +1,67 @@
-//! The laws of a store between two calls.
-ghost use Rattle.std.specs.Prelude.{◌≡◌, ◌≤◌, ℕ, List, [], length, take, false, true};
-ghost use Rattle.store_form.specs.Spelling.{Group, IsGroup};
+//! The laws of a store that is not asked to switch, over any run of calls, and of its opening. They speak
+//! of definitions alone.
+ghost use Rattle.std.specs.Prelude.{◌≡◌, ◌≤◌, ◌<◌, ◌+◌, ◌⊎◌, ℕ, Bool, false, List, [], ◌++◌, length, Option, Some};
+ghost use Rattle.store_form.specs.declared.checkpoint.Checkpoint.{Checkpoint};
 ghost use Rattle.checkpoint_store.specs.Slots.{generation_of};
-ghost use Rattle.durable_store.specs.Standing.{first, calls_log, at_stake, is_idle, is_due, StoreStands, AreImages, LeavesEither, MayLeave, StateStands, group_begins, added_in, kept_in, others_in};
-ghost use Rattle.durable_store.specs.Restored.{Images, restores};
-ghost use Rattle.durable_store.specs.Wholes.{IsFront};
-ghost use Rattle.durable_store.specs.States.{StoreState, state_of};
-ghost use Rattle.durable_store.specs.Exact.{store_called, started, store_opened, call_due};
-ghost use Rattle.durable_store.specs.Lives.{UnswitchedWire, IsUnswitched, LeavesUnswitched, OpensAs, no_bytes, nothing};
-ghost use Rattle.durable_store.specs.declared.kept.Kept.{Kept};
+ghost use Rattle.store_laws.specs.Restored.{Images, restores, with};
+ghost use Rattle.store_laws.specs.States.{StoreState, greatest, is_due, given, asked, MayLeave, store_opened};
+ghost use Rattle.store_laws.specs.Lives.{StoreWire};
+ghost use Rattle.store_laws.specs.Runs.{called_times, RunFits, CallLeaves, RunLeaves};
+ghost use Rattle.store_laws.specs.Stands.{Aim, at_rest};
+ghost use Rattle.store_laws.specs.declared.job.Kept.{Kept};
+ghost use Rattle.store_laws.specs.declared.job.Tail.{Tail};
+ghost use Rattle.durable_store.specs.BookRuns.{HoldsBook, BookNext, IsFrontOr, firm_then};
+ghost use Rattle.durable_store.specs.Runs.{unasks};
+ghost use Rattle.durable_store.specs.Disks.{contents};
+ghost use Rattle.durable_store.specs.Streams.{entries_to_come, Gives};
+ghost use Rattle.durable_store.specs.declared.opening.Opening.{Opening};
 
-use crate::store::Store;
 use disk_model::disk::Disk;
 
-/// A crash now restores what the store keeps, or the first of what it may restore instead.
-pub fn a_crash_leaves_either<D: Disk>(store: &Store<D>)
-    ensures { (added : Group) (kept : Kept) (others : List Kept) → StoreStands store.now added kept others → LeavesEither store.now kept (first kept others) }
-{
-    let _ = store;
-}
-
-/// A crash leaves a store of its own lives again. The premises are that only crashes of its own lives
-/// have changed the store, and that it has switched to no generation. The next life keeps what this
-/// one kept, or what this one might have restored instead. It may restore no third thing.
-pub fn a_crash_leaves_a_store<D: Disk>(store: &Store<D>)
-    ensures { (added : Group) (kept : Kept) (others : List Kept) → StoreStands store.now added kept others → IsUnswitched (state_of store.now) → LeavesUnswitched (state_of store.now) kept (first kept others) }
-{
-    let _ = store;
-}
-
-/// The bytes of a store that only crashes of its own lives have changed restore what is claimed of
-/// them.
-pub fn a_store_restores()
-    ensures { (images : Images) (kept other : Kept) → UnswitchedWire images kept other → restores images ≡ kept }
+/// A store holds its book: what it restored, and what it was given, in order. Any run of calls that
+/// go well keeps it so. Once no call is due, each crash restores the book but for what still waits.
+pub fn a_run_keeps_its_book()
+    ensures opened { (images : Images) (kept other : Kept) (next : Checkpoint) → StoreWire images kept other → HoldsBook kept.entries kept.present other 0 (store_opened images) (at_rest kept other next) }
+    ensures given { (book : List (List ℕ)) (present : Option Checkpoint) (stake : Kept) (gone : ℕ) (s : StoreState) (a : Aim) (entries : List (List ℕ)) → HoldsBook book present stake gone s a
+        → HoldsBook (book ++ entries) present stake gone (given entries s) a }
+    ensures keeps { (stops : List ℕ → Bool) (tail : Tail) (book : List (List ℕ)) (present : Option Checkpoint) (stake : Kept) (gone n : ℕ) (s : StoreState) (a : Aim) → HoldsBook book present stake gone s a → RunFits stops tail n s
+        → (b : Aim) × HoldsBook book present stake gone (called_times stops tail n s) b }
+    // What was given becomes firm, and nothing else does.
+    ensures firm { (stops : List ℕ → Bool) (tail : Tail) (book : List (List ℕ)) (present : Option Checkpoint) (stake : Kept) (gone n : ℕ) (s : StoreState) (a : Aim) → HoldsBook book present stake gone s a → RunFits stops tail n s
+        → firm_then (called_times stops tail n s) ≡ firm_then s }
+    ensures done { (stops : List ℕ → Bool) (tail : Tail) (book : List (List ℕ)) (present : Option Checkpoint) (stake : Kept) (gone : ℕ) (s : StoreState) (a : Aim) → HoldsBook book present stake gone s a → is_due stops s ≡ false
+        → (images : Images) → MayLeave s.devices images → with (restores images) s.waiting ≡ record { present = present; entries = book } }
 {}
 
-/// Empty devices are a store of its own lives, which keeps nothing.
-pub fn an_empty_store()
-    ensures { UnswitchedWire no_bytes nothing nothing }
+/// A crash at any moment of a run, whether its last call goes well or fails, leaves bytes with which
+/// the next life begins. They restore a front of the book, or what was at stake when the run began.
+/// The firm entries are among those restored, unless these are of a later generation.
+pub fn a_run_leaves_its_book()
+    ensures leaves { (stops : List ℕ → Bool) (tail : Tail) (book : List (List ℕ)) (present : Option Checkpoint) (stake : Kept) (gone n : ℕ) (s : StoreState) (a : Aim) → HoldsBook book present stake gone s a → RunFits stops tail n s
+        → (images : Images) → RunLeaves stops tail n s images → BookNext book present stake images }
+    ensures restores { (book : List (List ℕ)) (present : Option Checkpoint) (stake : Kept) (images : Images) → BookNext book present stake images → IsFrontOr book present stake (restores images) }
+    // A crash before the next call, or at a moment of it.
+    ensures counted { (stops : List ℕ → Bool) (tail : Tail) (book : List (List ℕ)) (present : Option Checkpoint) (stake : Kept) (gone : ℕ) (s : StoreState) (a : Aim) → HoldsBook book present stake gone s a → s.firm ≤ greatest
+        → (images : Images) → CallLeaves stops tail s images → (generation_of present < generation_of (restores images).present) ⊎ (s.firm ≤ gone + length (restores images).entries) }
 {}
 
-/// What is firm stays: each crash that restores the present generation restores all firm entries, and
-/// as the first ones. If no slot has to be closed, each crash restores that generation. This holds
-/// during the next call too, as that restores what is kept or what is at stake.
-pub fn what_is_firm_stays<D: Disk>(store: &Store<D>)
-    ensures fits { (added : Group) (kept : Kept) (others : List Kept) → StoreStands store.now added kept others → store.now.firm ≤ length kept.entries }
-    ensures firm { (added : Group) (kept : Kept) (others : List Kept) → StoreStands store.now added kept others
-        → (images : Images) → AreImages store.now images → generation_of (restores images).present ≡ store.now.generation → take store.now.firm (restores images).entries ≡ take store.now.firm kept.entries }
-    ensures present { (added : Group) (kept : Kept) (others : List Kept) → StoreStands store.now added kept others → calls_log store.now ≡ true
-        → (images : Images) → AreImages store.now images → generation_of (restores images).present ≡ store.now.generation }
-    ensures other { (added : Group) (kept : Kept) (others : List Kept) → StoreStands store.now added kept others → calls_log store.now ≡ true
-        → IsFront kept.entries (first kept others).entries }
-    ensures at_stake { (added : Group) (kept : Kept) (others : List Kept) → StoreStands store.now added kept others → calls_log store.now ≡ true
-        → IsFront kept.entries (at_stake store.now added kept others).entries }
-{
-    let _ = store;
-}
-
-/// A store without a due call has no running job, and each crash restores what it keeps.
-pub fn nothing_is_due<D: Disk>(store: &Store<D>)
-    ensures { (added : Group) (kept : Kept) (others : List Kept) → StoreStands store.now added kept others → is_due store.now ≡ false → (is_idle store.now ≡ true) × (others ≡ []) }
-{
-    let _ = store;
-}
-
-/// The state of a store alone tells what a crash may leave, and whether a call is due.
-pub fn what_a_state_says<D: Disk>(store: &Store<D>)
-    ensures leaves { (images : Images) → AreImages store.now images → MayLeave (state_of store.now) images }
-    ensures left { (images : Images) → MayLeave (state_of store.now) images → AreImages store.now images }
-    ensures due { is_due store.now ≡ call_due (state_of store.now) }
-{
-    let _ = store;
-}
-
-/// The state after the next call stands for what these clauses say. The premise is that the entries
-/// of a group that begins in it have a spelling together. Entries that are given change nothing of
-/// it.
-pub fn a_state_goes_on()
-    ensures called { (s : StoreState) (added : Group) (kept : Kept) (others : List Kept) → StateStands s added kept others → (group_begins s ≡ true → IsGroup s.waiting)
-        → StateStands (store_called s) (added_in s added) (kept_in s added kept) (others_in s added kept others) }
-    ensures own { (s : StoreState) (added : Group) (kept : Kept) (others : List Kept) → StateStands s added kept others → (group_begins s ≡ true → IsGroup s.waiting)
-        → IsUnswitched s → IsUnswitched (store_called s) }
-    ensures started { (s : StoreState) (added : Group) (kept : Kept) (others : List Kept) (entries : List (List ℕ)) → StateStands s added kept others → StateStands (started s entries) added kept others }
+/// A switch that waits, and does not run yet, changes nothing of the other calls: the store goes on as
+/// one that was not asked. So it holds its book all the same.
+pub fn a_switch_that_waits_changes_nothing()
+    ensures asked { (s : StoreState) (snapshot : List ℕ) → unasks (asked snapshot s) ≡ unasks s }
+    ensures same { (stops : List ℕ → Bool) (tail : Tail) (n : ℕ) (s : StoreState) (snapshot : List ℕ) → (called_times stops tail n s).asked ≡ Some snapshot
+        → unasks (called_times stops tail n s) ≡ called_times stops tail n (unasks s) }
+    ensures fits { (stops : List ℕ → Bool) (tail : Tail) (n : ℕ) (s : StoreState) (snapshot : List ℕ) → (called_times stops tail n s).asked ≡ Some snapshot → RunFits stops tail n s → RunFits stops tail n (unasks s) }
+    ensures keeps { (stops : List ℕ → Bool) (tail : Tail) (book : List (List ℕ)) (present : Option Checkpoint) (stake : Kept) (gone n : ℕ) (s : StoreState) (a : Aim) (snapshot : List ℕ) → HoldsBook book present stake gone (unasks s) a → RunFits stops tail n s
+        → (called_times stops tail n s).asked ≡ Some snapshot → (b : Aim) × HoldsBook book present stake gone (unasks (called_times stops tail n s)) b }
+    // A crash after these calls leaves bytes with which the next life begins.
+    ensures leaves { (stops : List ℕ → Bool) (tail : Tail) (book : List (List ℕ)) (present : Option Checkpoint) (stake : Kept) (gone n : ℕ) (s : StoreState) (a : Aim) (snapshot : List ℕ) → HoldsBook book present stake gone (unasks s) a → RunFits stops tail n s
+        → (called_times stops tail n s).asked ≡ Some snapshot → (images : Images) → MayLeave (called_times stops tail n s).devices images → BookNext book present stake images }
 {}
 
-/// The bytes that a crash leaves open as a store of its own lives again, if only crashes of its own
-/// lives have changed it. That store stands for the very pair that is claimed of the bytes.
-pub fn a_state_lives_on()
-    ensures crash { (s : StoreState) (added : Group) (kept : Kept) (others : List Kept) → StateStands s added kept others → IsUnswitched s → LeavesUnswitched s kept (first kept others) }
-    ensures opened { (images : Images) (kept other : Kept) → UnswitchedWire images kept other → OpensAs (store_opened images) kept other }
+/// The entries that the opening of a store gives as a stream, one after the other until none is to
+/// come, are those that `reopen` gives.
+pub fn a_stream_gives_what_is_reopened<D: Disk>()
+    ensures { (kept : Kept) (entries : List (List ℕ)) (first last : Opening D) → kept ≡ restores (contents D.cells first.disks) → entries_to_come D.cells first ≡ kept.entries
+        → Gives D.cells entries first last → entries_to_come D.cells last ≡ [] → entries ≡ kept.entries }
 {}

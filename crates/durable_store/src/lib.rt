@@ -1,11 +1,11 @@
-//! A member's store: its newest checkpoint, and the entries of its log since. A crash at any moment
-//! leaves what was firm, with or without what was being written. Log and checkpoints are Dura-SMaRt's
-//! (USENIX ATC 2013); gates and generations are this project's own.
+//! A store over two generations: a newest checkpoint, and the entries of its log since. A crash at any
+//! moment leaves what was firm, with or without what was being written.
 #![tactic(auto)]
 
-pub mod closing;
+pub mod cell;
 pub mod disks;
-pub mod kept;
 pub mod laws;
+pub mod opening;
+pub mod reading;
 pub mod reopening;
 pub mod store;

@@ -1,5 +1,5 @@
 //! The reading of a device in pieces.
-ghost use Rattle.std.specs.Prelude.{◌≡◌, ◌<◌, ◌+◌, ◌^◌, ◌++◌, length, min, take, drop, IfOk, OnOk, IsErrOf};
+ghost use Rattle.std.specs.Prelude.{◌≡◌, ◌≤◌, ◌<◌, ◌+◌, ◌^◌, ◌++◌, length, min, take, drop, IfOk, OnOk, IsErrOf};
 ghost use Rattle.faults.specs.Counts.{HasCause, HasWant};
 ghost use Rattle.log_stream.specs.Windows.{OnlyRead};
 
@@ -43,6 +43,7 @@ pub fn read_bytes<D: Disk>(
     ensures bytes { IfOk result (λ bytes. D.told → bytes ≡ take count (drop at (D.cells device.old).now)) }
     ensures still { D.told → OnlyRead D.cells D.moment D.left_since device.old device.new }
     ensures cause { HasCause (D.faults device.old) (D.faults device.new) result }
+    ensures wants_later { D.wants device.old ≤ D.wants device.new }
 {
     let mut bytes = Vec::new(alloc);
     let mut done = 0;

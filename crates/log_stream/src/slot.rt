@@ -1,5 +1,5 @@
 //! A slot in pieces: what stands before its snapshot, and the snapshot.
-ghost use Rattle.std.specs.Prelude.{◌≡◌, ◌<◌, ◌^◌, length, take, drop, IfOk, IfSome};
+ghost use Rattle.std.specs.Prelude.{◌≡◌, ◌≤◌, ◌<◌, ◌^◌, length, take, drop, IfOk, IfSome};
 ghost use Rattle.faults.specs.Counts.{HasCause, HasWant};
 ghost use Rattle.checkpoint_store.specs.Exact.{slot_opened};
 ghost use Rattle.log_stream.specs.Windows.{OnlyRead, Shows};
@@ -115,6 +115,7 @@ pub fn read_snapshot<D: Disk>(alloc: Global, device: &mut D, size: u64) -> Resul
     ensures bytes { IfOk result (λ bytes. D.told → bytes ≡ take size (drop 13 (D.cells device.old).now)) }
     ensures still { D.told → OnlyRead D.cells D.moment D.left_since device.old device.new }
     ensures cause { HasCause (D.faults device.old) (D.faults device.new) result }
+    ensures wants_later { D.wants device.old ≤ D.wants device.new }
 {
     read_bytes(alloc, device, 13, size)
 }

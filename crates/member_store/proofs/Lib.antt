@@ -8,3 +8,4 @@ pub mod Goes
 pub mod Crashed
 pub mod Groups
 pub mod Whole
+pub mod Called

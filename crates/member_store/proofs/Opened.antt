@@ -1,17 +1,22 @@
 -- The book of a store that is opened.
-use Rattle.std.proofs.Common.{◌≡◌, ℕ, Bool, true, false, not, cond, List, [], ◌++◌, refl, ap, sym, subst, arith}
-use Rattle.std.proofs.lemmas.List.{append-nil}
-use Rattle.disk_model.specs.Cells.{settled}
+use Rattle.std.proofs.Common.{◌≡◌, ℕ, min, Bool, true, false, cond, List, [], length, Option, None, refl, ap, sym, ◌∙◌, subst, arith}
+use Rattle.disk_model.specs.Cells.{Cells}
 use Rattle.disk_model.specs.Memory.{plain_cells}
+use Rattle.disk_model.proofs.Sound.{sound_settled}
+use Rattle.store_form.specs.declared.checkpoint.Checkpoint.{Checkpoint}
+use Rattle.store_laws.specs.Restored.{Images, present_in}
+use Rattle.store_laws.specs.States.{greatest, store_opened}
+use Rattle.store_laws.specs.Stands.{at_rest}
+use Rattle.store_laws.specs.Lives.{no_bytes, nothing, StoreWire}
+use Rattle.store_laws.specs.Books.{Books}
+use Rattle.store_laws.specs.Unswitched.{IsUnswitched}
+use Rattle.store_laws.specs.declared.job.Kept.{Kept}
+use Rattle.store_laws.proofs.Restores.{wire_present, store_restores}
+use Rattle.store_laws.proofs.Crashes.{empty_wire}
+use Rattle.store_laws.proofs.Goes.{own_opened}
+use Rattle.store_laws.proofs.Booked.{books_opened}
+use Rattle.store_laws.proofs.Unswitched.{none_present, unswitched_opened}
 use Rattle.durable_store.specs.Disks.{contents}
-use Rattle.durable_store.specs.Restored.{Images, log_image, side_of}
-use Rattle.durable_store.specs.Turns.{adds}
-use Rattle.durable_store.specs.Standing.{first}
-use Rattle.durable_store.specs.Exact.{store_opened}
-use Rattle.durable_store.specs.Lives.{no_bytes, nothing, UnswitchedWire}
-use Rattle.durable_store.specs.declared.kept.Kept.{Kept}
-use Rattle.durable_store.proofs.Lives.{empty_store}
-use Rattle.durable_store.proofs.Found.{state_opens}
 use Rattle.member_store.specs.Books.{BringsBack, Holds}
 use Rattle.world_rules.specs.Crashes.{is_unclosed, still_aside, bytes_held}
 use Rattle.member_store.specs.Devices.{state_in}
@@ -23,40 +28,33 @@ back_by : (unclosed : Bool) (aside : List (List ℕ)) (kept other : Kept) → Br
 back_by true aside kept other both = both
 back_by false aside kept other both = tt
 
-nothing_more : (adding : Bool) (entries : List (List ℕ)) → entries ++ (cond adding [] [] ++ []) ≡ entries
-nothing_more true entries = append-nil entries
-nothing_more false entries = append-nil entries
+-- the checkpoint of no switch
+abbrev no_next : Checkpoint
+no_next = record { generation = 0; snapshot = [] }
 
-pub opened_holds : (images : Images) (kept other : Kept) (aside : List (List ℕ)) → UnswitchedWire images kept other → BringsBack true aside kept other
+pub opened_holds : (images : Images) (kept other : Kept) (aside : List (List ℕ)) → IsUnswitched (store_opened images) → StoreWire images kept other → BringsBack true aside kept other
     → Holds (store_opened images) kept.entries (still_aside (store_opened images) aside)
-opened_holds images kept other aside wire both =
-    let opens = state_opens images kept other wire in
+opened_holds images kept other aside unswitched wire both =
+    let even : images.even_slot ≡ [] = ap (λ (c : Cells). c.now) unswitched.even_slot in
+    let odd : images.odd_slot ≡ [] = ap (λ (c : Cells). c.now) unswitched.odd_slot in
+    let none : kept.present ≡ None = sym (wire_present images kept other wire) ∙ none_present images even odd in
     record {
-      added = [];
-      kept = kept;
-      others = opens.others;
-      stands = opens.stands;
-      own = opens.own;
-      all = nothing_more (adds (store_opened images).log.job) kept.entries;
-      back = back_by (is_unclosed (store_opened images).log.job) aside kept (first kept opens.others) (subst (λ (x : Kept). BringsBack true aside kept x) (sym opens.instead) both);
+      aim = at_rest kept other no_next;
+      own = own_opened images kept other no_next wire;
+      books = subst (λ (present : Option Checkpoint). Books kept.entries present (store_opened images) (at_rest kept other no_next)) none (books_opened images kept other no_next);
+      unswitched = unswitched;
+      sound = sound_settled images.even_log;
+      firm = ap (λ (k : Kept). min (length k.entries) greatest) (store_restores images kept other wire);
+      back = back_by (is_unclosed (store_opened images)) aside kept other both;
+      gated = back_by (is_unclosed (store_opened images)) aside kept other both;
     }
 
 pub empty_holds : Holds (store_opened no_bytes) [] []
-empty_holds = opened_holds no_bytes nothing nothing [] empty_store (refl, (refl, omega arith))
+empty_holds = opened_holds no_bytes nothing nothing [] (unswitched_opened no_bytes refl refl refl) empty_wire (refl, (refl, omega arith))
 
 -- devices that are opened hold what was left of them
 pub held_opened : (left : Images) → bytes_held (store_opened left) ≡ left
-held_opened left = by (side_of left)
-  where
-    by : (odd : Bool)
-        → record {
-          even_log = (cond odd (settled (log_image (not odd) left)) (settled (log_image odd left))).now;
-          odd_log = (cond odd (settled (log_image odd left)) (settled (log_image (not odd) left))).now;
-          even_slot = left.even_slot;
-          odd_slot = left.odd_slot;
-        } ≡ left
-    by true = refl
-    by false = refl
+held_opened left = refl
 
 -- so a store that has crashed is what opens over what it holds
 pub as_left : (d : Devices) → (state_in d).runs ≡ false → store_opened (bytes_held (state_in d).state) ≡ (state_in d).state

@@ -1,13 +1,12 @@
 -- What a member's store has of its node's book, and what a crash leaves of it.
-use Rattle.std.specs.Prelude.{◌≡◌, ◌≤◌, ℕ, Bool, true, false, cond, List, [], ◌++◌, length, take}
-use Rattle.store_form.specs.Spelling.{Group}
-use Rattle.durable_store.specs.Restored.{Images, restores}
-use Rattle.durable_store.specs.States.{StoreState}
-use Rattle.durable_store.specs.Turns.{adds}
-use Rattle.durable_store.specs.Standing.{StateStands, first}
-use Rattle.durable_store.specs.Lives.{IsUnswitched}
-use Rattle.durable_store.specs.Exact.{store_opened}
-use Rattle.durable_store.specs.declared.kept.Kept.{Kept}
+use Rattle.std.specs.Prelude.{◌≡◌, ◌≤◌, ℕ, Bool, true, false, List, min, length, take, None}
+use Rattle.disk_model.specs.Cells.{IsSound}
+use Rattle.store_laws.specs.Restored.{Images, restores}
+use Rattle.store_laws.specs.States.{StoreState, greatest, store_opened}
+use Rattle.store_laws.specs.Stands.{Aim, IsOwn}
+use Rattle.store_laws.specs.Books.{Books}
+use Rattle.store_laws.specs.Unswitched.{IsUnswitched}
+use Rattle.store_laws.specs.declared.job.Kept.{Kept}
 use Rattle.world_rules.specs.Crashes.{is_unclosed, written_book, still_aside}
 
 -- entries that are the first ones of a book
@@ -20,16 +19,18 @@ abbrev pub BringsBack : Bool → List (List ℕ) → Kept → Kept → Type 0
 BringsBack false aside kept other = Unit {0}
 BringsBack true aside kept other = Begins kept.entries aside × (Begins other.entries aside × (length kept.entries ≤ length other.entries))
 
--- A store that holds the book of this life: what it keeps, then what its running job adds, then what waits. `aside` is the book of the life
--- that wrote past a gate which a crash left torn.
+-- A store that holds the book of this life: what it keeps, then what its running job adds, then what waits. It was never asked to switch.
+-- `aside` is the book of the life that wrote past a gate which a crash left torn. What may be brought back of it is at stake now, and
+-- stays so when the running job has written its gate.
 pub record Holds (s : StoreState) (book aside : List (List ℕ)) : Type 0 where
-  pub added : Group
-  pub kept : Kept
-  pub others : List Kept
-  pub stands : StateStands s added kept others
-  pub own : IsUnswitched s
-  pub all : kept.entries ++ (cond (adds s.log.job) added [] ++ s.waiting) ≡ book
-  pub back : BringsBack (is_unclosed s.log.job) aside kept (first kept others)
+  pub aim : Aim
+  pub own : IsOwn s aim
+  pub books : Books book None s aim
+  pub unswitched : IsUnswitched s
+  pub sound : IsSound s.devices.even_log
+  pub firm : s.firm ≡ min (length aim.kept.entries) greatest
+  pub back : BringsBack (is_unclosed s) aside aim.kept aim.stake
+  pub gated : BringsBack (is_unclosed s) aside aim.kept aim.gated
 
 -- Bytes that a crash leaves of a store. They restore first entries of one book, with all that is firm, and open as a store that holds them.
 pub record Leaves (s : StoreState) (book aside : List (List ℕ)) (left : Images) : Type 0 where

@@ -1,11 +1,10 @@
 //! What a member's store has of its node's book, over all its lives.
-ghost use Rattle.std.specs.Prelude.{◌≡◌, ◌++◌, ◌≤◌, ℕ, List, [], true, None};
-ghost use Rattle.store_form.specs.Spelling.{IsGroup};
-ghost use Rattle.durable_store.specs.Restored.{Images};
-ghost use Rattle.durable_store.specs.States.{StoreState};
-ghost use Rattle.durable_store.specs.Standing.{MayLeave, group_begins};
-ghost use Rattle.durable_store.specs.Exact.{store_called, started, store_opened};
-ghost use Rattle.durable_store.specs.Lives.{no_bytes};
+ghost use Rattle.std.specs.Prelude.{◌≡◌, ◌++◌, ◌≤◌, ℕ, List, [], None};
+ghost use Rattle.store_laws.specs.Restored.{Images};
+ghost use Rattle.store_laws.specs.States.{StoreState, MayLeave, due_job, store_called, given, store_opened};
+ghost use Rattle.store_laws.specs.Stands.{HasSpelling};
+ghost use Rattle.store_laws.specs.Lives.{no_bytes};
+ghost use Rattle.store_laws.specs.Unswitched.{never, no_tail};
 ghost use Rattle.world_rules.specs.Crashes.{images_left, wrong_images, still_aside};
 ghost use Rattle.world_rules.specs.declared.crash.Image.{Image};
 ghost use Rattle.member_store.specs.Books.{Holds, Leaves};
@@ -15,23 +14,23 @@ ghost use Rattle.member_store.specs.Books.{Holds, Leaves};
 /// have a spelling together. The number of firm entries does not fall.
 pub fn a_store_holds_a_book()
     ensures empty { Holds (store_opened no_bytes) [] [] }
-    ensures given { (s : StoreState) (book aside entries : List (List ℕ)) → Holds s book aside → Holds (started s entries) (book ++ entries) aside }
-    ensures called { (s : StoreState) (book aside : List (List ℕ)) → Holds s book aside → (group_begins s ≡ true → IsGroup s.waiting) → Holds (store_called s) book (still_aside (store_called s) aside) }
-    ensures firm { (s : StoreState) (book aside : List (List ℕ)) → Holds s book aside → (group_begins s ≡ true → IsGroup s.waiting) → s.firm ≤ (store_called s).firm }
+    ensures given { (s : StoreState) (book aside entries : List (List ℕ)) → Holds s book aside → Holds (given entries s) (book ++ entries) aside }
+    ensures called { (s : StoreState) (book aside : List (List ℕ)) → Holds s book aside → (s.running ≡ [] → HasSpelling (due_job never s)) → Holds (store_called never no_tail s) book (still_aside (store_called never no_tail s) aside) }
+    ensures firm { (s : StoreState) (book aside : List (List ℕ)) → Holds s book aside → (s.running ≡ [] → HasSpelling (due_job never s)) → s.firm ≤ (store_called never no_tail s).firm }
 {}
 
 /// A crash between two calls leaves the first entries of one book, all that is firm among them. What
 /// it leaves opens as a store that holds them. The book is that of this life, or an earlier one's
 /// until a torn gate is closed.
 pub fn a_crash_leaves_a_book()
-    ensures { (s : StoreState) (book aside : List (List ℕ)) (left : Images) → Holds s book aside → MayLeave s left → Leaves s book aside left }
+    ensures { (s : StoreState) (book aside : List (List ℕ)) (left : Images) → Holds s book aside → MayLeave s.devices left → Leaves s book aside left }
 {}
 
 /// The bytes that a script names are bytes that a crash may leave if and only if no byte of them is
 /// wrong.
 pub fn no_byte_is_wrong()
-    ensures may { (s : StoreState) (left : Images) → wrong_images s left ≡ None → MayLeave s left }
-    ensures none { (s : StoreState) (left : Images) → MayLeave s left → wrong_images s left ≡ None }
+    ensures may { (s : StoreState) (left : Images) → wrong_images s left ≡ None → MayLeave s.devices left }
+    ensures none { (s : StoreState) (left : Images) → MayLeave s.devices left → wrong_images s left ≡ None }
 {}
 
 /// A crash may always leave each device as it was at its last sync, or as it reads now, if the store

@@ -4,27 +4,28 @@ ghost use Rattle.disk_model.specs.Cells.{settled};
 ghost use Rattle.disk_model.specs.Memory.{plain_cells};
 ghost use Rattle.vote_book.specs.Entries.{entry_text};
 ghost use Rattle.store_form.specs.Spelling.{IsEntry};
+ghost use Rattle.store_laws.specs.Lives.{no_bytes};
+ghost use Rattle.store_laws.specs.Restored.{restores};
+ghost use Rattle.store_laws.specs.States.{store_opened, store_called, given, is_due};
+ghost use Rattle.store_laws.specs.Unswitched.{never, no_tail};
+ghost use Rattle.store_plan.specs.Fit.{AreEntries};
 ghost use Rattle.durable_store.specs.Disks.{contents, AreSettled};
-ghost use Rattle.durable_store.specs.Fit.{AreEntries};
-ghost use Rattle.durable_store.specs.Lives.{no_bytes};
-ghost use Rattle.durable_store.specs.Restored.{restores};
-ghost use Rattle.durable_store.specs.States.{state_of};
-ghost use Rattle.durable_store.specs.Exact.{store_opened, store_called, started, call_due};
-ghost use Rattle.world_rules.specs.Crashes.{bytes_held, even_log, odd_log, images_left, wrong_images};
+ghost use Rattle.durable_store.specs.Stores.{state_of};
+ghost use Rattle.world_rules.specs.Crashes.{bytes_held, images_left, wrong_images};
 ghost use Rattle.member_store.specs.Left.{Tells};
 
 use crate::crash::CrashFault;
 use crate::left::disk_left;
-use checkpoint_store::reading::is_odd;
 use disk_model::plain::PlainDisk;
 use durable_store::disks::Disks;
-use durable_store::laws::what_a_state_says;
 use durable_store::reopening::reopen;
-use durable_store::store::{Job, Store, Tail};
+use durable_store::store::{Job, Store};
 use smart_base::sequence::{Bytes, Sequence};
 use std::alloc::{AllocError, Global};
 use std::marker::Model;
 use std::mem;
+use store_laws::job::Tail;
+use store_plan::stops::NeverStops;
 use vote_book::codec::encode_entry;
 use vote_book::entry::LogEntry;
 use world_rules::crash::{Image, Patch};
@@ -139,19 +140,6 @@ fn texts(alloc: Global, entries: &[LogEntry]) -> Result<Sequence<Bytes>, AllocEr
     Ok(texts)
 }
 
-/// The devices of the two logs, of the even and of the odd generations.
-fn logs(store: &Store<PlainDisk>) -> (&PlainDisk, &PlainDisk)
-    ensures even { plain_cells result.0.now ≡ even_log (state_of store.now) }
-    ensures odd { plain_cells result.1.now ≡ odd_log (state_of store.now) }
-{
-    let (own, other) = (&store.log.device, &store.other_log);
-    if is_odd(store.generation) {
-        (other, own)
-    } else {
-        (own, other)
-    }
-}
-
 /// The devices that a crash leaves of a store, as a script says.
 #[tactic(auto, unfolding(world_rules::specs::Crashes::wrong_images))]
 fn disks_left(
@@ -160,18 +148,17 @@ fn disks_left(
     image: Image,
     patches: &[Patch],
 ) -> Result<Disks<PlainDisk>, CrashFault>
-    ensures right { IfOk result (λ disks. wrong_images (state_of store.now) (images_left image patches.now (state_of store.now)) ≡ None) }
+    ensures right { IfOk result (λ disks. wrong_images (state_of plain_cells store.now) (images_left image patches.now (state_of plain_cells store.now)) ≡ None) }
     ensures settled { IfOk result (λ disks. AreSettled plain_cells disks) }
-    ensures left { IfOk result (λ disks. contents plain_cells disks ≡ images_left image patches.now (state_of store.now)) }
-    ensures wrong { IfErr result (λ e. Tells e (wrong_images (state_of store.now) (images_left image patches.now (state_of store.now)))) }
+    ensures left { IfOk result (λ disks. contents plain_cells disks ≡ images_left image patches.now (state_of plain_cells store.now)) }
+    ensures wrong { IfErr result (λ e. Tells e (wrong_images (state_of plain_cells store.now) (images_left image patches.now (state_of plain_cells store.now)))) }
 {
-    let (even_log, odd_log) = logs(store);
-    let slots = &store.slots;
+    let disks = &store.disks;
     Ok(Disks {
-        even_log: disk_left(alloc, 0, even_log, image, patches)?,
-        odd_log: disk_left(alloc, 1, odd_log, image, patches)?,
-        even_slot: disk_left(alloc, 2, &slots.even.device, image, patches)?,
-        odd_slot: disk_left(alloc, 3, &slots.odd.device, image, patches)?,
+        even_log: disk_left(alloc, 0, &disks.even_log, image, patches)?,
+        odd_log: disk_left(alloc, 1, &disks.odd_log, image, patches)?,
+        even_slot: disk_left(alloc, 2, &disks.even_slot, image, patches)?,
+        odd_slot: disk_left(alloc, 3, &disks.odd_slot, image, patches)?,
     })
 }
 
@@ -210,20 +197,17 @@ impl MemberStore {
 
     /// Whether there is a device call to make.
     pub fn is_due(&self) -> bool
-        ensures { result ≡ (self.now.runs && call_due self.now.state) }
+        ensures { result ≡ (self.now.runs && is_due never self.now.state) }
     {
         match &self.devices {
-            Devices::Running(store) => {
-                what_a_state_says(store);
-                store.is_due()
-            }
+            Devices::Running(store) => store.is_due::<NeverStops>(),
             Devices::Stopped(_) => false,
         }
     }
 
     /// Makes the next device call, if there is one. Error: want of memory.
     pub fn call(&mut self) -> Result<(), AllocError>
-        ensures runs { OnOk result (self.old.runs ≡ true → self.new ≡ record { runs = true; state = store_called self.old.state }) }
+        ensures runs { OnOk result (self.old.runs ≡ true → self.new ≡ record { runs = true; state = store_called never no_tail self.old.state }) }
         ensures stopped { self.old.runs ≡ false → (result ≡ Ok tt) × (self.new ≡ self.old) }
     {
         let alloc = self.alloc;
@@ -234,7 +218,7 @@ impl MemberStore {
             made: 0,
             entries: Sequence::new(alloc),
         };
-        match store.next_call(alloc, &tail) {
+        match store.next_call::<NeverStops>(alloc, &tail) {
             Ok(_) => Ok(()),
             Err(_) => Err(AllocError),
         }
@@ -243,7 +227,7 @@ impl MemberStore {
     /// Gives entries to the store, which wait for the next group. A store that does not run takes
     /// none. Error: want of memory.
     pub fn write_down(&mut self, entries: &[LogEntry]) -> Result<(), AllocError>
-        ensures runs { OnOk result (self.old.runs ≡ true → self.new ≡ record { runs = true; state = started self.old.state (map entry_text entries.now) }) }
+        ensures runs { OnOk result (self.old.runs ≡ true → self.new ≡ record { runs = true; state = given (map entry_text entries.now) self.old.state }) }
         ensures stopped { self.old.runs ≡ false → (result ≡ Ok tt) × (self.new ≡ self.old) }
     {
         let alloc = self.alloc;

@@ -1,15 +1,21 @@
 //! Stores over disks that fail and crash.
-ghost use Rattle.durable_store.specs.Fit.{AreEntries};
+ghost use Rattle.std.specs.Prelude.{◌≡◌};
+ghost use Rattle.store_form.specs.declared.ends.State.TheVariants.{Open};
+ghost use Rattle.store_laws.specs.States.{Devices};
+ghost use Rattle.store_plan.specs.Fit.{AreEntries};
+ghost use Rattle.store_plan.specs.Plans.{state_with};
+ghost use Rattle.durable_store.specs.Runs.{IsUnasked};
 
 use crate::frail::FrailDisk;
 use durable_store::disks::Disks;
-use durable_store::kept::Kept;
 use durable_store::reopening::reopen;
-use durable_store::store::{Job, Store, StoreFault, Tail};
+use durable_store::store::{Job, Store, StoreFault};
 use smart_base::sequence::{Bytes, Sequence};
 use std::alloc::Global;
 use std::process::Abort;
 use store_form::ends::LogFault;
+use store_laws::job::{Kept, Tail};
+use store_plan::stops::NeverStops;
 
 /// A log of one entry, of byte 1.
 const FIRST: [u8; 23] = *b"\x01\0\0\0\0\0\0\0\x0d\0\0\0\0\0\0\0\x01\0\0\0\x01\x01\0";
@@ -114,7 +120,10 @@ fn run(rt: &impl Abort, alloc: Global, store: &mut Store<FrailDisk>, calls: u64)
         entries: Sequence::new(alloc),
     };
     for _ in 0..calls {
-        store.next_call(alloc, &tail).ok().expect(rt, "it goes on");
+        store
+            .next_call::<NeverStops>(alloc, &tail)
+            .ok()
+            .expect(rt, "it goes on");
     }
 }
 
@@ -143,14 +152,17 @@ fn an_entry_is_restored_once_its_gate_is_open(rt: HostRuntime) {
 }
 
 /// What a store over torn disks answers that adds entries of byte 1 and of byte 2.
-fn add_two(rt: &impl Abort, alloc: Global, store: &mut Store<FrailDisk>) -> [u8; 2] {
-    let first = letter(store.append(alloc, entry(rt, alloc, 1)));
-    let second = letter(store.append(alloc, entry(rt, alloc, 2)));
+fn add_two(rt: &impl Abort, alloc: Global, store: &mut Store<FrailDisk>) -> [u8; 2]
+    requires { store.old.state ≡ Open → (d : Devices) → IsUnasked (state_with store.old.plan d) }
+{
+    let first = letter(store.append::<NeverStops>(alloc, entry(rt, alloc, 1)));
+    let second = letter(store.append::<NeverStops>(alloc, entry(rt, alloc, 2)));
     [first, second]
 }
 
 /// Whether a store over torn disks that fail at these calls answers so, and restores so after a crash
 /// that leaves the disks as at their last sync, and as they read.
+#[tactic(auto, using(durable_store::proofs::Appends::idle_unasked))]
 fn goes(
     rt: &impl Abort,
     alloc: Global,

@@ -3,7 +3,7 @@ use Rattle.std.specs.Prelude.{ℕ, List, Option, Some, None}
 use Rattle.smart_base.specs.Views.{View}
 use Rattle.smart_base.specs.declared.limits.TheConstants.{PERIOD}
 use Rattle.smart_service.specs.Services.{Meaning}
-use Rattle.durable_store.specs.Restored.{restores}
+use Rattle.store_laws.specs.Restored.{restores}
 use Rattle.node_rules.specs.Nodes.{Node}
 use Rattle.node_rules.specs.Reopening.{reopened, damaged, entries_in}
 use Rattle.world_rules.specs.Crashes.{bytes_held}

@@ -6,7 +6,8 @@ ghost use Rattle.smart_base.specs.declared.limits.TheConstants.{PERIOD};
 ghost use Rattle.node_rules.specs.Nodes.{next_place, view_of};
 ghost use Rattle.node_rules.specs.Kept.{core_step};
 ghost use Rattle.node_rules.specs.Steps.{leaving, released, opened, outset};
-ghost use Rattle.durable_store.specs.Exact.{call_due};
+ghost use Rattle.store_laws.specs.States.{is_due};
+ghost use Rattle.store_laws.specs.Unswitched.{never};
 ghost use Rattle.node_rules.specs.Deliveries.{delivery_in};
 ghost use Rattle.world_rules.specs.Secrets.{period};
 ghost use Rattle.world_rules.specs.Worlds.{core_course, host_of_node, disk_called, told_drop, told_fired, chosen_with, host_after, host_index, shown_host};
@@ -255,7 +256,7 @@ impl<S: Service> Host<S> {
 
     /// Whether its node runs, and its store has a device call to make.
     pub fn has_call(&self) -> bool
-        ensures { result ≡ (self.now.up && call_due self.now.store) }
+        ensures { result ≡ (self.now.up && is_due never self.now.store) }
     {
         self.store.is_due()
     }

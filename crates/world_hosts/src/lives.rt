@@ -1,7 +1,7 @@
 //! Hosts that crash, and restart from what their devices hold.
 ghost use Rattle.std.specs.Prelude.{◌≡◌, ◌++◌, [], true, false, length, None, IfOk, IfErr, OnOk, OnErr, option_map};
-ghost use Rattle.durable_store.specs.Exact.{started, store_opened};
-ghost use Rattle.durable_store.specs.Restored.{restores};
+ghost use Rattle.store_laws.specs.States.{given, store_opened};
+ghost use Rattle.store_laws.specs.Restored.{restores};
 ghost use Rattle.world_rules.specs.Crashes.{bytes_held, images_left, wrong_images};
 ghost use Rattle.member_store.specs.Left.{Tells};
 ghost use Rattle.node_rules.specs.Reopening.{damaged};
@@ -87,7 +87,7 @@ impl<S: Service> Host<S> {
     /// of memory.
     fn give_opening(&mut self, node: &NodeCore<S>) -> Result<(), AllocError>
         requires { self.old.up ≡ true }
-        ensures { OnOk result (self.new ≡ record self.old { store = started self.old.store (spelled_behind node.now.node.restored node.now.node.entries) }) }
+        ensures { OnOk result (self.new ≡ record self.old { store = given (spelled_behind node.now.node.restored node.now.node.entries) self.old.store }) }
     {
         self.store.write_down(behind(node.book(), node.restored()))
     }

@@ -1,5 +1,5 @@
 -- What a member has sent rests on entries that became firm there.
-use Rattle.durable_store.specs.Restored.{Images, restores}
+use Rattle.store_laws.specs.Restored.{Images, restores}
 use Rattle.smart_base.specs.declared.party.Party.TheVariants as parties
 use Rattle.smart_base.specs.declared.party.Party.{Party}
 use Rattle.agreement_laws.specs.Fronts.{IsFront}

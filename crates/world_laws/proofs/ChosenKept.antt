@@ -1,7 +1,7 @@
 -- Each event of a world keeps the list of chosen batches right.
 use Rattle.replica_laws.proofs.Sources.{HasSource}
-use Rattle.durable_store.specs.Restored.{Images, restores}
-use Rattle.durable_store.specs.Standing.{MayLeave}
+use Rattle.store_laws.specs.Restored.{Images, restores}
+use Rattle.store_laws.specs.States.{MayLeave}
 use Rattle.node_laws.specs.Restored.{IsSoundBook}
 use Rattle.node_laws.proofs.Restored.{book_sound}
 use Rattle.node_laws.proofs.CertifiedBooks.{certified_book}
@@ -314,7 +314,7 @@ right-called m w i h up at r =
     (host-called w.sent m w.view w.chosen h up r.1.short (host-fit m w i h at r) (host-right m w i h at r)) r.1
 
 -- a member crashes
-right-crashed : {S : Type 0} (m : Meaning S) (w : World S) (i : ℕ) (h : Host S) (left : Images) → h.up ≡ true → slice_get w.hosts i ≡ Some h → MayLeave h.store left → ChosenRight m w
+right-crashed : {S : Type 0} (m : Meaning S) (w : World S) (i : ℕ) (h : Host S) (left : Images) → h.up ≡ true → slice_get w.hosts i ≡ Some h → MayLeave h.store.devices left → ChosenRight m w
     → WorldRight m (with_host w i (host_crashed (course_of m) h left))
 right-crashed m w i h left up at may r =
     right-set m w i h (host_crashed (course_of m) h left) at

@@ -1,5 +1,5 @@
 -- A host stays right where its store makes a call, where its member crashes, and where its node goes on.
-use Rattle.std.proofs.Common.{◌≡◌, ℕ, zero, suc, ◌^◌, ◌<◌, ◌≤◌, ◌++◌, ◌∙◌, true, false, cond, List, [], ◌∷◌, length, drop, refl, ap, sym, subst, arith, append_assoc}
+use Rattle.std.proofs.Common.{◌≡◌, ℕ, zero, suc, ◌^◌, ◌<◌, ◌≤◌, ◌++◌, ◌∙◌, true, false, List, [], ◌∷◌, length, drop, refl, ap, sym, subst, arith, append_assoc}
 use Rattle.std.proofs.lemmas.List.{drop-map}
 use Rattle.std.proofs.Math.Seq.{drop-append_seam}
 use Rattle.smart_base.specs.Lists.{Each}
@@ -9,11 +9,10 @@ use Rattle.smart_service.specs.Services.{Meaning}
 use Rattle.vote_book.specs.Entries.{entry_text, FitsEntry}
 use Rattle.vote_book.specs.declared.entry.LogEntry.{LogEntry}
 use Rattle.store_form.specs.Spelling.{IsGroup}
-use Rattle.durable_store.specs.Restored.{Images, restores}
-use Rattle.durable_store.specs.States.{StoreState}
-use Rattle.durable_store.specs.Standing.{MayLeave}
-use Rattle.durable_store.specs.Turns.{adds}
-use Rattle.durable_store.specs.Exact.{store_called, store_opened}
+use Rattle.store_laws.specs.Restored.{Images, restores}
+use Rattle.store_laws.specs.States.{StoreState, MayLeave, store_called, store_opened}
+use Rattle.store_laws.specs.Unswitched.{never, no_tail}
+use Rattle.store_laws.proofs.Unswitched.{unswitched_spells}
 use Rattle.member_store.specs.Books.{Holds}
 use Rattle.world_rules.specs.Crashes.{is_unclosed, still_aside}
 use Rattle.member_store.proofs.Groups.{group_fits}
@@ -43,14 +42,11 @@ use Rattle.agreement_laws.proofs.Lists.{either, each_append}
 waits_behind : (s : StoreState) (book aside : List (List ℕ)) → Holds s book aside → (k : ℕ) × (s.waiting ≡ drop k book)
 waits_behind s book aside is = (
   length front,
-  sym (drop-append_seam front s.waiting) ∙ ap (λ (xs : List (List ℕ)). drop (length front) xs) (append_assoc is.kept.entries running s.waiting ∙ is.all),
+  sym (drop-append_seam front s.waiting) ∙ ap (λ (xs : List (List ℕ)). drop (length front) xs) (append_assoc is.aim.kept.entries s.adding s.waiting ∙ is.books.all),
 )
   where
-    running : List (List ℕ)
-    running = cond (adds s.log.job) is.added []
-
     front : List (List ℕ)
-    front = is.kept.entries ++ running
+    front = is.aim.kept.entries ++ s.adding
 
 -- so a group that begins has a spelling
 waiting_fits : (s : StoreState) (es : List LogEntry) (aside : List (List ℕ)) → Each FitsEntry es → length es < 2 ^ 28 → Holds s (texts es) aside → IsGroup s.waiting
@@ -65,7 +61,7 @@ waiting_fits s es aside fit few is =
     shorter (suc k) (x ∷ xs) = let less = shorter k xs in omega (arith, less)
 
 aside_right : (sent : List Sent) (view : View) (chosen : List Batch) (s : StoreState) (es : List LogEntry) → BookRight sent view chosen es → BookRight sent view chosen (still_aside s es)
-aside_right sent view chosen s es b = either (λ (xs : List LogEntry). BookRight sent view chosen xs) (is_unclosed s.log.job) es [] b (none_right sent view chosen es b)
+aside_right sent view chosen s es b = either (λ (xs : List LogEntry). BookRight sent view chosen xs) (is_unclosed s) es [] b (none_right sent view chosen es b)
 
 -- few entries are in the book of a host that is right
 pub own_few : {S : Type 0} (sent : List Sent) (m : Meaning S) (view : View) (chosen : List Batch) (h : Host S) → length sent ≤ 2 ^ 24 → HostRight sent m view chosen h → length h.node.entries < 2 ^ 28
@@ -77,7 +73,9 @@ host-called sent m view chosen h up short fit r = record {
   sound = r.sound;
   shared = r.shared;
   stored = λ up. fits-called h.node h.store (r.stored up);
-  lasts = lasts-called m h up (λ begins. waiting_fits h.store h.node.entries (texts h.life.aside) fit.node.book (own_few sent m view chosen h short r) (held_book h up r.lasts)) r.lasts;
+  lasts = lasts-called m h up
+      (λ idle. unswitched_spells h.store r.lasts.holds.unswitched
+      (waiting_fits h.store h.node.entries (texts h.life.aside) fit.node.book (own_few sent m view chosen h short r) (held_book h up r.lasts))) r.lasts;
   order = r.order;
   within = r.within;
   count = r.count;
@@ -85,7 +83,7 @@ host-called sent m view chosen h up short fit r = record {
   agrees = r.agrees;
   earlier = r.earlier;
   diary = r.diary;
-  aside = aside_right sent view chosen (store_called h.store) h.life.aside r.aside;
+  aside = aside_right sent view chosen (store_called never no_tail h.store) h.life.aside r.aside;
   few = few-called m sent h r.few;
 }
 
@@ -95,14 +93,14 @@ host-called sent m view chosen h up short fit r = record {
 left_right : {S : Type 0} (sent : List Sent) (m : Meaning S) (view : View) (chosen : List Batch) (h : Host S) → h.up ≡ true → HostRight sent m view chosen h
     → BookRight sent view chosen (book_left h)
 left_right sent m view chosen h up r =
-    either (λ (xs : List LogEntry). BookRight sent view chosen xs) (is_unclosed h.store.log.job) h.life.aside (written h) r.aside
+    either (λ (xs : List LogEntry). BookRight sent view chosen xs) (is_unclosed h.store) h.life.aside (written h) r.aside
     (subst (λ (xs : List LogEntry). BookRight sent view chosen xs) (sym (written_is h up r.lasts)) (own_right sent m view chosen h r))
 
-pub host-crash : {S : Type 0} (sent : List Sent) (m : Meaning S) (view : View) (chosen : List Batch) (h : Host S) (left : Images) → h.up ≡ true → MayLeave h.store left → FitHost m h → HostRight sent m view chosen h
+pub host-crash : {S : Type 0} (sent : List Sent) (m : Meaning S) (view : View) (chosen : List Batch) (h : Host S) (left : Images) → h.up ≡ true → MayLeave h.store.devices left → FitHost m h → HostRight sent m view chosen h
     → Crashed h left
 host-crash sent m view chosen h left up may fit r = crashed h left up may (spelled-life h.life fit.life) fit.node.book r.lasts
 
-pub host-crashes : {S : Type 0} (sent : List Sent) (m : Meaning S) (view : View) (chosen : List Batch) (h : Host S) (left : Images) → h.up ≡ true → MayLeave h.store left → FitHost m h
+pub host-crashes : {S : Type 0} (sent : List Sent) (m : Meaning S) (view : View) (chosen : List Batch) (h : Host S) (left : Images) → h.up ≡ true → MayLeave h.store.devices left → FitHost m h
     → HostRight sent m view chosen h → HostRight sent m view chosen (host_crashed (course_of m) h left)
 host-crashes sent m view chosen h left up may fit r =
     let c : Crashed h left = host-crash sent m view chosen h left up may fit r in

@@ -14,8 +14,9 @@ use Rattle.node_rules.specs.declared.node.Held.{Held}
 use Rattle.node_rules.specs.Kept.{trimmed, core_step}
 use Rattle.node_rules.specs.Nodes as nodes
 use Rattle.kept_arrivals.proofs.Steps.{core_step_trimmed, opened_stands}
-use Rattle.durable_store.specs.Exact.{call_due}
-use Rattle.durable_store.specs.Restored.{Images, restores}
+use Rattle.store_laws.specs.States.{is_due}
+use Rattle.store_laws.specs.Unswitched.{never}
+use Rattle.store_laws.specs.Restored.{Images, restores}
 use Rattle.world_rules.specs.Crashes.{images_left, wrong_images, bytes_held}
 use Rattle.world_rules.specs.declared.crash.Image.{Image}
 use Rattle.world_rules.specs.declared.crash.Patch.{Patch}
@@ -159,7 +160,7 @@ unfolding disk_called trimmed_host trimmed_world trimmed nodes.regency_of
 host_calls_same m i w None = refl
 host_calls_same m i w (Some h) =
     choice_same trimmed_world (not (is_up w h)) _ _ _ _ refl
-    (choice_same trimmed_world (call_due h.store) _ _ _ _ (hears_firm_same m i w (disk_called (course_of m) h)) refl)
+    (choice_same trimmed_world (is_due never h.store) _ _ _ _ (hears_firm_same m i w (disk_called (course_of m) h)) refl)
 
 -- the store at an index does
 calls_disk_same : {S : Type 0} (m : Meaning S) (i : ℕ) (w : World S) → calls_disk (core_course m) i (trimmed_world w) ≡ trimmed_world (calls_disk (course_of m) i w)
@@ -174,7 +175,7 @@ takes_due_same : {S : Type 0} (m : Meaning S) (i : ℕ) (w : World S) (found : O
 unfolding trimmed_host trimmed nodes.regency_of
 takes_due_same m i w None = refl
 takes_due_same m i w (Some h) =
-    choice_same trimmed_world (call_due h.store) _ _ _ _ (calls_disk_same m i w) (choice_same trimmed_world (is_some h.node.waiting) _ _ _ _ (node_takes_same m i Deliver w) refl)
+    choice_same trimmed_world (is_due never h.store) _ _ _ _ (calls_disk_same m i w) (choice_same trimmed_world (is_some h.node.waiting) _ _ _ _ (node_takes_same m i Deliver w) refl)
 
 -- a node settles once
 settle_once_same : {S : Type 0} (m : Meaning S) (i : ℕ) (w : World S) → settle_once (core_course m) i (trimmed_world w) ≡ trimmed_world (settle_once (course_of m) i w)

@@ -12,8 +12,8 @@ use Rattle.agreement_laws.specs.Fronts.{IsFront}
 use Rattle.agreement_laws.specs.Statements.{Statement}
 use Rattle.vote_book.specs.declared.entry.LogEntry.{LogEntry}
 use Rattle.vote_book.specs.declared.entry.LogEntry.TheVariants.{Opened, Wrote, Accepted, Promised, Synced, Decided, Installed, Marked}
-use Rattle.durable_store.specs.Restored.{Images}
-use Rattle.durable_store.specs.States.{StoreState}
+use Rattle.store_laws.specs.Restored.{Images}
+use Rattle.store_laws.specs.States.{StoreState}
 use Rattle.world_rules.specs.Crashes.{is_unclosed, still_aside}
 use Rattle.node_rules.specs.Nodes.{Node}
 use Rattle.node_rules.specs.Reopening.{decided_of, reopened}
@@ -117,7 +117,7 @@ few-after m sent h o node some same is = record {
 
 -- what is still aside
 aside-from : (bytes : List (List ℕ)) (s : StoreState) (es : List LogEntry) → FromBook bytes es → FromBook bytes (still_aside s es)
-aside-from bytes s es from = either (λ (xs : List LogEntry). FromBook bytes xs) (is_unclosed s.log.job) es [] from (from-take bytes es 0 from)
+aside-from bytes s es from = either (λ (xs : List LogEntry). FromBook bytes xs) (is_unclosed s) es [] from (from-take bytes es 0 from)
 
 -- a host's store makes a call
 pub few-called : {S : Type 0} (m : Meaning S) (sent : List Sent) (h : Host S) → FewHost sent h → FewHost sent (after_call (course_of m) h)
@@ -126,7 +126,7 @@ few-called m sent h is = record { node = is.node; begun = is.begun; diary = is.d
 -- the book of which a crash leaves the first entries
 pub few-left : {S : Type 0} (sent : List Sent) (h : Host S) → written h ≡ h.node.entries → FewHost sent h → FromBook (sources sent) (book_left h)
 few-left sent h own is =
-    either (λ (es : List LogEntry). FromBook (sources sent) es) (is_unclosed h.store.log.job) h.life.aside (written h) is.aside
+    either (λ (es : List LogEntry). FromBook (sources sent) es) (is_unclosed h.store) h.life.aside (written h) is.aside
     (subst (λ (es : List LogEntry). FromBook (sources sent) es) (sym own) is.node.book)
 
 -- a host's member crashes

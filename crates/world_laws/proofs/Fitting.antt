@@ -43,7 +43,8 @@ use Rattle.vote_book.specs.Entries.{FitsEntry}
 use Rattle.vote_book.specs.declared.entry.LogEntry.{LogEntry}
 use Rattle.node_rules.specs.Nodes.{Node, view_of}
 use Rattle.node_rules.specs.Reopening.{decided_of, entries_in, reopened}
-use Rattle.durable_store.specs.Exact.{store_called}
+use Rattle.store_laws.specs.States.{store_called}
+use Rattle.store_laws.specs.Unswitched.{never, no_tail}
 use Rattle.world_laws.proofs.Lives.{EachLife, life-weaker, life-firm, life-called, life-crashed}
 use Rattle.world_laws.proofs.Reopens.{fit_reopened}
 use Rattle.world_rules.specs.declared.message.Content.{Content}
@@ -202,7 +203,7 @@ keeps-fit {S = S} m brief =
           (spelled-step group_secret m brief h.node event (may-fit w h event is may) (each_get (FitHost m) w.hosts i h is.hosts at).node) is;
       disk = λ w i h up at is.
           let fit : FitHost m h = each_get (FitHost m) w.hosts i h is.hosts at in
-          fit-set w i (after_call (course_of m) h) (record { node = fit.node; life = life-called EntryFits h.life (store_called h.store) fit.life }) is;
+          fit-set w i (after_call (course_of m) h) (record { node = fit.node; life = life-called EntryFits h.life (store_called never no_tail h.store) fit.life }) is;
       crash = λ w i h left up at may is.
           let fit : FitHost m h = each_get (FitHost m) w.hosts i h is.hosts at in
           fit-set w i (host_crashed (course_of m) h left) (record { node = fit.node; life = life-crashed EntryFits h left (book_fits h.node fit.node) fit.life }) is;

@@ -50,7 +50,8 @@ use Rattle.world_laws.proofs.Fitting.{AllFit, keeps-fit, fit-reads, fit-resumes,
 use Rattle.world_laws.proofs.Lives.{EachLife, life-weaker, life-firm, life-called, life-crashed}
 use Rattle.node_rules.specs.Reopening.{decided_of, entries_in, reopened}
 use Rattle.node_laws.proofs.Reopened.{reopened_is}
-use Rattle.durable_store.specs.Exact.{store_called}
+use Rattle.store_laws.specs.States.{store_called}
+use Rattle.store_laws.specs.Unswitched.{never, no_tail}
 use Rattle.world_rules.specs.Secrets.{group_secret, period}
 use Rattle.world_laws.proofs.NoClash.{HasBatch, IsMet, has-left, has-right, met-grows, TextsExact, texts-end, met-exact}
 use Rattle.agreement_laws.proofs.Lists.{some_equal, each_among, each_append, either, each_end}
@@ -435,7 +436,7 @@ keeps-grounded {S = S} m brief =
       disk = λ w i h up at is.
           let met : HostMet (IsMet w.sent) h = each_get (HostMet (IsMet w.sent)) w.hosts i h is.hosts at in
           met-set w i (after_call (course_of m) h) (k.disk w i h up at is.fit)
-          (record { node = met.node; life = life-called (EntryMet (IsMet w.sent)) h.life (store_called h.store) met.life }) is;
+          (record { node = met.node; life = life-called (EntryMet (IsMet w.sent)) h.life (store_called never no_tail h.store) met.life }) is;
       crash = λ w i h left up at may is.
           let met : HostMet (IsMet w.sent) h = each_get (HostMet (IsMet w.sent)) w.hosts i h is.hosts at in
           met-set w i (host_crashed (course_of m) h left) (k.crash w i h left up at may is.fit)

@@ -21,8 +21,8 @@ use Rattle.replica_rules.specs.Seals.{signed}
 use Rattle.node_rules.specs.Nodes.{Node, next_place, view_of}
 use Rattle.node_rules.specs.Steps.{Outcome, leaving}
 use Rattle.node_rules.specs.Reopening.{reopened, damaged, entries_in}
-use Rattle.durable_store.specs.Restored.{Images, restores}
-use Rattle.durable_store.specs.Standing.{MayLeave}
+use Rattle.store_laws.specs.Restored.{Images, restores}
+use Rattle.store_laws.specs.States.{MayLeave, is_due, store_called}
 use Rattle.world_rules.specs.Crashes.{images_left, wrong_images, bytes_held}
 use Rattle.world_rules.specs.declared.crash.Image.{Image}
 use Rattle.world_rules.specs.declared.crash.Patch.{Patch}
@@ -37,7 +37,7 @@ use Rattle.client_quorum.specs.Clients.{request_of, asking, learning, reply_read
 use Rattle.world_rules.specs.Clients.{heard}
 use Rattle.world_rules.specs.Worlds.{Course, Host, World, is_up, remembered, life_called, host_crashed, crashes_with, host_crashes, crashes, host_resumed, resumes_from, host_resumes, resumes, restart_at, at_host, summary, telling, posts, sends_all, told_drop, told_fired, host_after, chosen_with, stepped, is_gone, is_rogue, host_takes, node_takes, disk_called, hears_firm, host_calls, calls_disk, takes_due, settle_once, settle, told_absent, settle_present, settle_all, gives, hearing, client_hears, hears_bytes, client_takes, client_asks, ask_found, asks, client_repeats, repeat_found, repeats, learns, learns_from, tells, goes, flow_sent, flow_once, is_listed, where_listed, at_listed, each_listed, host_index, at_index, at_member, arrives, arrives_at, sent_arrives, give_number, told_idle, telling_all, host_tries, tries_at, tries_each, give_one, shown_host, shown_client, shows, declares_faulty, declares_rogue, injects_content, injects, is_halted, heard_by, reaches, outset_of}
 use Rattle.world_rules.specs.Repeats.{repeated}
-use Rattle.durable_store.specs.Exact.{call_due, store_called}
+use Rattle.store_laws.specs.Unswitched.{never, no_tail}
 use Rattle.world_rules.specs.Plays.{line_played, rested, world_after}
 use Rattle.client_quorum.specs.declared.client.Client.{Client}
 use Rattle.client_quorum.specs.declared.client.Heard.{Heard}
@@ -132,7 +132,7 @@ with_host w i h = record w { hosts = slice_set w.hosts i h }
 
 -- the host whose store has made its next device call, and whose node has heard nothing of it
 abbrev pub after_call : {S : Type 0} → Course S → Host S → Host S
-after_call course h = record h { store = store_called h.store; life = remembered course h.life (life_called h.life (store_called h.store)) }
+after_call course h = record h { store = store_called never no_tail h.store; life = remembered course h.life (life_called h.life (store_called never no_tail h.store)) }
 
 -- the world with that host
 abbrev pub called : {S : Type 0} → Course S → World S → ℕ → Host S → World S
@@ -246,7 +246,7 @@ pub record Keeps {S : Type 0} (course : Course S) (P : World S → Type 0) : Typ
   -- the store of a host makes a device call
   pub disk : (w : World S) (i : ℕ) (h : Host S) → IsUp w h → slice_get w.hosts i ≡ Some h → P w → P (called course w i h)
   -- the node of a host stops, and a crash leaves this of its devices
-  pub crash : (w : World S) (i : ℕ) (h : Host S) (left : Images) → IsUp w h → slice_get w.hosts i ≡ Some h → MayLeave h.store left → P w → P (with_host w i (host_crashed course h left))
+  pub crash : (w : World S) (i : ℕ) (h : Host S) (left : Images) → IsUp w h → slice_get w.hosts i ≡ Some h → MayLeave h.store.devices left → P w → P (with_host w i (host_crashed course h left))
   -- a client hears the bytes of a content that are read as a reply
   pub hear : (w : World S) (i : ℕ) (c : Client) (x : Content) (a : SignedBy Answer) → slice_get w.clients i ≡ Some c → HasContent w.sent x → decoded (bytes_of x) ≡ Ok (Reply a)
       → P w → P (hearing w i c a (heard w.view c a))
@@ -302,7 +302,7 @@ pub record KeepsLive {S : Type 0} (course : Course S) (P : World S → Type 0) :
 pub record KeepsLives {S : Type 0} (course : Course S) (P : World S → Type 0) : Type 0 where
   pub live : KeepsLive course P
   -- the node of a host stops, and a crash leaves this of its devices
-  pub crash : (w : World S) (i : ℕ) (h : Host S) (left : Images) → w.ending ≡ None → IsUp w h → slice_get w.hosts i ≡ Some h → MayLeave h.store left → P w
+  pub crash : (w : World S) (i : ℕ) (h : Host S) (left : Images) → w.ending ≡ None → IsUp w h → slice_get w.hosts i ≡ Some h → MayLeave h.store.devices left → P w
       → P (with_host w i (host_crashed course h left))
   -- a node goes on from what its devices hold, and tells that
   pub resume : (w : World S) (i : ℕ) (h : Host S) → w.ending ≡ None → IsDown w h → slice_get w.hosts i ≡ Some h → P w
@@ -338,7 +338,7 @@ pub record KeepsCalm {S : Type 0} (course : Course S) (P : World S → Type 0) :
 pub record KeepsCalmLives {S : Type 0} (course : Course S) (P : World S → Type 0) : Type 0 where
   pub calm : KeepsCalm course P
   -- the node of a host stops, and a crash leaves this of its devices
-  pub crash : (w : World S) (i : ℕ) (h : Host S) (left : Images) → w.ending ≡ None → IsUp w h → slice_get w.hosts i ≡ Some h → MayLeave h.store left → P w
+  pub crash : (w : World S) (i : ℕ) (h : Host S) (left : Images) → w.ending ≡ None → IsUp w h → slice_get w.hosts i ≡ Some h → MayLeave h.store.devices left → P w
       → P (with_host w i (host_crashed course h left))
   -- a node goes on from what its devices hold, and tells that
   pub resume : (w : World S) (i : ℕ) (h : Host S) → w.ending ≡ None → IsDown w h → slice_get w.hosts i ≡ Some h → P w
@@ -536,7 +536,7 @@ live-host_calls : {S : Type 0} (course : Course S) (P : World S → Type 0) → 
 live-host_calls course P k i w None on at p = p
 live-host_calls course P k i w (Some h) on at p =
     either_by P (not (is_up w h)) w _ (λ not_up. p)
-    (λ up. either P (call_due h.store) _ w (live-hears_firm course P k i w h on (is-up w h (not_false (is_up w h) up)) at p) p)
+    (λ up. either P (is_due never h.store) _ w (live-hears_firm course P k i w h on (is-up w h (not_false (is_up w h) up)) at p) p)
 
 -- the store at an index does
 pub live-calls_disk : {S : Type 0} (course : Course S) (P : World S → Type 0) → KeepsCalm course P → (i : ℕ) (w : World S) → P w → P (calls_disk course i w)
@@ -549,7 +549,7 @@ live-calls_disk course P k i w p = either_by P (is_halted w) w _ (λ over. p) (�
 live-takes_due : {S : Type 0} (course : Course S) (P : World S → Type 0) → KeepsCalm course P → (i : ℕ) (w : World S) (found : Option (Host S)) → P w → P (takes_due course i w found)
 live-takes_due course P k i w None p = p
 live-takes_due course P k i w (Some h) p =
-    either P (call_due h.store) _ _ (live-calls_disk course P k i w p) (either P (is_some h.node.waiting) _ w (live-node_takes course P k i Deliver w (λ g at. tt) p) p)
+    either P (is_due never h.store) _ _ (live-calls_disk course P k i w p) (either P (is_some h.node.waiting) _ w (live-node_takes course P k i Deliver w (λ g at. tt) p) p)
 
 -- a node settles once
 pub live-settle_once : {S : Type 0} (course : Course S) (P : World S → Type 0) → KeepsCalm course P → (i : ℕ) (w : World S) → P w → P (settle_once course i w)

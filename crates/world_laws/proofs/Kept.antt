@@ -19,8 +19,8 @@ use Rattle.vote_book.specs.Entries.{FitsEntry}
 use Rattle.vote_book.specs.declared.entry.LogEntry.{LogEntry}
 use Rattle.replica_rules.specs.Replicas.{state}
 use Rattle.replica_rules.specs.Seals.{is_verified}
-use Rattle.durable_store.specs.Restored.{Images, restores}
-use Rattle.durable_store.specs.Standing.{MayLeave}
+use Rattle.store_laws.specs.Restored.{Images, restores}
+use Rattle.store_laws.specs.States.{MayLeave}
 use Rattle.member_store.specs.Books.{Leaves}
 use Rattle.world_rules.specs.Crashes.{images_left, is_unclosed, written_book, wrong_images}
 use Rattle.world_rules.specs.declared.crash.Image.{Image}
@@ -76,7 +76,7 @@ record LeftBook {S : Type 0} (w : World S) (h : Host S) (left : Images) : Type 0
 -- what holds of the books of a host, holds of the one of which a crash leaves the first entries
 of_written : {S : Type 0} (P : List LogEntry → Type 0) (h : Host S) → P h.node.entries → P h.life.diary → P h.life.aside → P (written_book h.store (book_now h) h.life.aside)
 of_written P h own diary aside =
-    either P (is_unclosed h.store.log.job) h.life.aside (book_now h) aside (either P h.up h.node.entries h.life.diary own diary)
+    either P (is_unclosed h.store) h.life.aside (book_now h) aside (either P h.up h.node.entries h.life.diary own diary)
 
 -- a diary is firm, and stands at the front of the book of this life
 diary_firm : {S : Type 0} (h : Host S) → length h.life.diary ≤ 2 ^ 64 - 1 → Lasts h → (length h.life.diary ≤ h.store.firm) × (h.life.diary ≡ take (length h.life.diary) (book_now h))
@@ -93,7 +93,7 @@ diary_firm {S = S} h few is = by h.up refl
         whole [] = refl
         whole (e ∷ es) = ap (λ (xs : List LogEntry). e ∷ xs) (whole es)
 
-left_book : {S : Type 0} (m : Meaning S) (w : World S) (i : ℕ) (h : Host S) (left : Images) → slice_get w.hosts i ≡ Some h → MayLeave h.store left → ChosenRight m w → LeftBook w h left
+left_book : {S : Type 0} (m : Meaning S) (w : World S) (i : ℕ) (h : Host S) (left : Images) → slice_get w.hosts i ≡ Some h → MayLeave h.store.devices left → ChosenRight m w → LeftBook w h left
 left_book {S = S} m w i h left at may r =
     let right : HostRight w.sent m w.view w.chosen h = host-right m w i h at r in
     let fit : FitHost m h = host-fit m w i h at r in
@@ -144,7 +144,7 @@ left_front {S = S} m w h left r b =
 
 recovers : {S : Type 0} (m : Meaning S) (w : World S) (i : ℕ) (h : Host S) → slice_get w.hosts i ≡ Some h → ChosenRight m w → Recovers m w h
 recovers {S = S} m w i h at r =
-    let b : (left : Images) → MayLeave h.store left → LeftBook w h left = λ left may. left_book m w i h left at may r in
+    let b : (left : Images) → MayLeave h.store.devices left → LeftBook w h left = λ left may. left_book m w i h left at may r in
     let none_wrong : (image : Image) → wrong_images h.store (images_left image [] h.store) ≡ None =
     λ image. none_left_wrong h.store (texts (book_now h)) (texts h.life.aside) (host-right m w i h at r).lasts.holds image in
     record {
@@ -173,7 +173,7 @@ all_recover {S = S} m w r = each_at (Recovers m w) w.hosts (λ i h at. recovers 
 -- ---- places that are kept
 
 -- a member whose diary has reached a place restores it or a later one
-reached_kept : {S : Type 0} (m : Meaning S) (w : World S) (i : ℕ) (h : Host S) (left : Images) (place : ℕ) → slice_get w.hosts i ≡ Some h → MayLeave h.store left → ChosenRight m w → HasReached h.life.diary place
+reached_kept : {S : Type 0} (m : Meaning S) (w : World S) (i : ℕ) (h : Host S) (left : Images) (place : ℕ) → slice_get w.hosts i ≡ Some h → MayLeave h.store.devices left → ChosenRight m w → HasReached h.life.diary place
     → place ≤ (restored_replica m w.view h left).place
 reached_kept {S = S} m w i h left place at may r reached =
     let b : LeftBook w h left = left_book m w i h left at may r in
@@ -235,7 +235,7 @@ honest_kept {S = S} m w a left i h at may r is =
     let shows : ShowsOwn w.faulty (Replied g.reply) h =
     each_get (ShowsOwn w.faulty (Replied g.reply)) w.hosts i h (r.1.shown (Replied g.reply) (reply_there w.sent g.reply g.there g.tagged)) at in
     let reached : HasReached h.life.diary g.reply.statement.place = shows (ap (λ (k : ℕ). Member k) g.signer) correct in
-    let here : MayLeave h.store (left h.node.id) = each_get (λ (x : Host S). is_gone w x.node.id ≡ false → MayLeave x.store (left x.node.id)) w.hosts i h may at correct in
+    let here : MayLeave h.store.devices (left h.node.id) = each_get (λ (x : Host S). is_gone w x.node.id ≡ false → MayLeave x.store.devices (left x.node.id)) w.hosts i h may at correct in
     let least = reached_kept m w i h (left h.node.id) g.reply.statement.place at here r reached in
     let place = g.place in
     rw (both.1, le-leb a.place (restored_replica m w.view h (left h.node.id)).place (omega (arith, least, place))) refl

@@ -8,12 +8,12 @@ use Rattle.smart_base.specs.Views.{View}
 use Rattle.smart_service.specs.Services.{Meaning}
 use Rattle.vote_book.specs.Entries.{entry_text, FitsEntry}
 use Rattle.vote_book.specs.declared.entry.LogEntry.{LogEntry}
-use Rattle.durable_store.specs.Restored.{Images, restores}
-use Rattle.durable_store.specs.States.{StoreState}
-use Rattle.durable_store.specs.Standing.{MayLeave, group_begins}
-use Rattle.durable_store.specs.Exact.{store_called, started, store_opened}
-use Rattle.durable_store.specs.Lives.{no_bytes}
-use Rattle.store_form.specs.Spelling.{IsGroup}
+use Rattle.store_laws.specs.Restored.{Images, restores}
+use Rattle.store_laws.specs.States.{StoreState, MayLeave, due_job, store_called, given, store_opened}
+use Rattle.store_laws.specs.Unswitched.{never, no_tail}
+use Rattle.store_laws.specs.Stands.{HasSpelling}
+use Rattle.store_laws.specs.Lives.{no_bytes}
+use Rattle.store_laws.proofs.Unswitched.{unswitched_given}
 use Rattle.world_rules.specs.Crashes.{bytes_held, is_unclosed, written_book, still_aside}
 use Rattle.member_store.specs.Books.{Begins, Holds, Leaves}
 use Rattle.member_store.proofs.Opened.{empty_holds, held_opened}
@@ -27,7 +27,7 @@ use Rattle.node_laws.proofs.Reopened.{reopened_is}
 use Rattle.agreement_laws.specs.Fronts.{IsFront}
 use Rattle.world_rules.specs.Worlds.{course_of, Host, Life, from_to, with_front, life_firm, life_called, written, life_crashed, spelled_behind, host_of_node, host_after, host_crashed, host_resumed}
 use Rattle.world_laws.proofs.Keeps.{entries_left, after_call}
-use Rattle.world_laws.proofs.Stores.{Fits, coming, coming_none, behind-length}
+use Rattle.world_laws.proofs.Stores.{Fits, behind-length}
 use Rattle.agreement_laws.proofs.Lists.{each_take, either, each_append}
 use Rattle.smart_base.proofs.ViewFacts.{each-weaken}
 
@@ -97,7 +97,7 @@ pub life-weaker : (P Q : LogEntry → Type 0) → ((e : LogEntry) → P e → Q 
 life-weaker P Q weaker l is = record { diary = each-weaken P Q weaker l.diary is.diary; aside = each-weaken P Q weaker l.aside is.aside }
 
 each-aside : (P : LogEntry → Type 0) (s : StoreState) (es : List LogEntry) → Each P es → Each P (still_aside s es)
-each-aside P s es is = either (λ (xs : List LogEntry). Each P xs) (is_unclosed s.log.job) es [] is tt
+each-aside P s es is = either (λ (xs : List LogEntry). Each P xs) (is_unclosed s) es [] is tt
 
 -- it holds so where more is firm of a book of which it holds
 pub life-firm : {S : Type 0} (P : LogEntry → Type 0) (l : Life) (n later : Node S) → Each P later.entries → EachLife P l → EachLife P (life_firm l n later)
@@ -112,7 +112,7 @@ life-called P l s is = record { diary = is.diary; aside = each-aside P s l.aside
 
 each_left : {S : Type 0} (P : LogEntry → Type 0) (h : Host S) → Each P h.node.entries → EachLife P h.life → Each P (book_left h)
 each_left P h own life =
-    either (λ (es : List LogEntry). Each P es) (is_unclosed h.store.log.job) h.life.aside (written h) life.aside
+    either (λ (es : List LogEntry). Each P es) (is_unclosed h.store) h.life.aside (written h) life.aside
     (each_append P h.life.diary (drop h.node.firm h.node.entries) life.diary (each_drop P h.node.firm h.node.entries own))
 
 -- and where its member crashes
@@ -145,7 +145,7 @@ restored_front diary book restored own other begins front =
 -- with the diary.
 pub left_diary : {S : Type 0} (h : Host S) (left : Images) → Lasts h → Begins (restores left).entries (written_book h.store (texts (book_now h)) (texts h.life.aside))
     → texts h.life.diary ≡ take (length h.life.diary) (restores left).entries → texts (life_crashed h left).diary ≡ (restores left).entries
-left_diary {S = S} h left is begins front = by h.up (is_unclosed h.store.log.job) refl begins
+left_diary {S = S} h left is begins front = by h.up (is_unclosed h.store) refl begins
   where
     r : List (List ℕ)
     r = (restores left).entries
@@ -203,9 +203,9 @@ lasts-stepped diary firm more es rest is low le =
     ap (λ (xs : List LogEntry). xs ++ from_to firm more (es ++ rest)) (is ∙ sym (take-append-le firm es rest low)) ∙ take-from firm more (es ++ rest) le
 
 -- what is behind a book waits in its store
-pub given-behind : (s : StoreState) (es rest : List LogEntry) (aside : List (List ℕ)) → Holds s (texts es) aside → Holds (started s (spelled_behind (length es) (es ++ rest))) (texts (es ++ rest)) aside
+pub given-behind : (s : StoreState) (es rest : List LogEntry) (aside : List (List ℕ)) → Holds s (texts es) aside → Holds (given (spelled_behind (length es) (es ++ rest)) s) (texts (es ++ rest)) aside
 given-behind s es rest aside is =
-    subst (λ (xs : List (List ℕ)). Holds (started s (spelled_behind (length es) (es ++ rest))) xs aside)
+    subst (λ (xs : List (List ℕ)). Holds (given (spelled_behind (length es) (es ++ rest)) s) xs aside)
     (ap (λ (xs : List (List ℕ)). texts es ++ xs) (ap texts (past es)) ∙ sym (map-append entry_text es rest))
     (given_holds s (texts es) aside (spelled_behind (length es) (es ++ rest)) is)
   where
@@ -217,14 +217,14 @@ given-behind s es rest aside is =
 
 -- what is aside while a gate is torn, by what it is of
 aside_texts : (s : StoreState) (es : List LogEntry) → texts (still_aside s es) ≡ still_aside s (texts es)
-aside_texts s es = either_same (is_unclosed s.log.job)
+aside_texts s es = either_same (is_unclosed s)
   where
     either_same : (b : Bool) → texts (cond b es []) ≡ cond b (texts es) []
     either_same true = refl
     either_same false = refl
 
 pub written_texts : (s : StoreState) (book aside : List LogEntry) → texts (written_book s book aside) ≡ written_book s (texts book) (texts aside)
-written_texts s book aside = either_same (is_unclosed s.log.job)
+written_texts s book aside = either_same (is_unclosed s)
   where
     either_same : (b : Bool) → texts (cond b aside book) ≡ cond b (texts aside) (texts book)
     either_same true = refl
@@ -251,7 +251,7 @@ pub record Crashed {S : Type 0} (h : Host S) (left : Images) : Type 0 where
   pub front : (life_crashed h left).diary ≡ take (length (restores left).entries) (book_left h)
   pub holds : Holds (store_opened left) (restores left).entries (texts (life_crashed h left).aside)
 
-pub crashed : {S : Type 0} (h : Host S) (left : Images) → h.up ≡ true → MayLeave h.store left → EachLife FitsEntry h.life → Each FitsEntry h.node.entries → Lasts h → Crashed h left
+pub crashed : {S : Type 0} (h : Host S) (left : Images) → h.up ≡ true → MayLeave h.store.devices left → EachLife FitsEntry h.life → Each FitsEntry h.node.entries → Lasts h → Crashed h left
 crashed {S = S} h left up may life book is =
     let leaves : Leaves h.store (texts h.node.entries) (texts h.life.aside) left = crash_leaves h.store (texts h.node.entries) (texts h.life.aside) (held_book h up is) left may in
     let r : List (List ℕ) = (restores left).entries in
@@ -280,7 +280,7 @@ lasts-crashed m h left up is c = record {
 
 -- ---- a device call
 
-pub lasts-called : {S : Type 0} (m : Meaning S) (h : Host S) → h.up ≡ true → (group_begins h.store ≡ true → IsGroup h.store.waiting) → Lasts h → Lasts (after_call (course_of m) h)
+pub lasts-called : {S : Type 0} (m : Meaning S) (h : Host S) → h.up ≡ true → (h.store.running ≡ [] → HasSpelling (due_job never h.store)) → Lasts h → Lasts (after_call (course_of m) h)
 lasts-called m h up fits is =
     let book = texts h.node.entries in
     let aside = texts h.life.aside in
@@ -292,8 +292,8 @@ lasts-called m h up fits is =
       heard = λ up. omega (arith, heard, more);
       low = is.low;
       down = λ down. absurd (apart down);
-      holds = subst (λ (b : Bool). Holds (store_called h.store) (texts (cond b h.node.entries h.life.diary)) (texts (still_aside (store_called h.store) h.life.aside))) (sym up)
-          (subst (λ (es : List (List ℕ)). Holds (store_called h.store) book es) (sym (aside_texts (store_called h.store) h.life.aside)) (called_holds h.store book aside own fits));
+      holds = subst (λ (b : Bool). Holds (store_called never no_tail h.store) (texts (cond b h.node.entries h.life.diary)) (texts (still_aside (store_called never no_tail h.store) h.life.aside))) (sym up)
+          (subst (λ (es : List (List ℕ)). Holds (store_called never no_tail h.store) book es) (sym (aside_texts (store_called never no_tail h.store) h.life.aside)) (called_holds h.store book aside own fits));
     }
   where
     apart : h.up ≡ false → ⊥
@@ -310,12 +310,12 @@ lasts-after m h o up front more low heard is = record {
   low = low;
   down = λ down. absurd (apart down);
   holds = subst (λ (b : Bool). Holds new (texts (cond b o.node.entries (life_firm h.life h.node o.node).diary)) (texts h.life.aside)) (sym up)
-      (subst (λ (es : List LogEntry). Holds (started h.store (spelled_behind (length h.node.entries) es)) (texts es) (texts h.life.aside)) (sym front.is)
+      (subst (λ (es : List LogEntry). Holds (given (spelled_behind (length h.node.entries) es) h.store) (texts es) (texts h.life.aside)) (sym front.is)
       (given-behind h.store h.node.entries front.rest (texts h.life.aside) (held_book h up is)));
 }
   where
     new : StoreState
-    new = started h.store (spelled_behind (length h.node.entries) o.node.entries)
+    new = given (spelled_behind (length h.node.entries) o.node.entries) h.store
 
     apart : h.up ≡ false → ⊥
     apart down = let same = sym up ∙ down in cc
@@ -347,8 +347,8 @@ lasts-resumed {S = S} h n down few r is =
       heard = λ up. omega (arith, r.firm_is, firm);
       low = omega (arith, r.firm_is, long);
       down = λ down. absurd (apart down);
-      holds = subst (λ (k : ℕ). Holds (started h.store (spelled_behind k n.entries)) (texts n.entries) (texts h.life.aside)) (sym r.restored_is)
-          (subst (λ (es : List LogEntry). Holds (started h.store (spelled_behind (length d) es)) (texts es) (texts h.life.aside)) (sym r.book)
+      holds = subst (λ (k : ℕ). Holds (given (spelled_behind k n.entries) h.store) (texts n.entries) (texts h.life.aside)) (sym r.restored_is)
+          (subst (λ (es : List LogEntry). Holds (given (spelled_behind (length d) es) h.store) (texts es) (texts h.life.aside)) (sym r.book)
           (given-behind h.store d r.more (texts h.life.aside) (subst (λ (b : Bool). Holds h.store (texts (cond b h.node.entries d)) (texts h.life.aside)) down is.holds)));
     }
   where
@@ -361,14 +361,17 @@ fits-resumed {S = S} h n down few r is =
     let d : List LogEntry = h.life.diary in
     let s : Stopped h = is.down down in
     let firm : h.store.firm ≡ length d = stopped_firm h s few in
-    let none = coming_none h.store.log.job in
-    let adding : h.store.adding ≡ 0 = ap (λ (t : StoreState). t.adding) s.opened in
+    let adding : length h.store.adding ≡ 0 = ap (λ (t : StoreState). length t.adding) s.opened in
     let waiting : length h.store.waiting ≡ 0 = ap (λ (t : StoreState). length t.waiting) s.opened in
-    let coming_is : coming h.store.log.job h.store.adding ≡ 0 = ap (λ (k : ℕ). coming h.store.log.job k) adding ∙ none in
     let long : length n.entries ≡ length d + length r.more = ap (λ (es : List LogEntry). length es) r.book ∙ length-append d r.more in
     let behind = behind-length n.restored n.entries in
     let all = length-append h.store.waiting (spelled_behind n.restored n.entries) in
-    record { restored = omega (arith, r.restored_is, firm); low = omega (arith, firm, few); written = omega (arith, firm, coming_is, all, waiting, behind, long, r.restored_is) }
+    record {
+      restored = omega (arith, r.restored_is, firm);
+      low = omega (arith, firm, few);
+      written = omega (arith, firm, adding, all, waiting, behind, long, r.restored_is);
+      unswitched = unswitched_given h.store (spelled_behind n.restored n.entries) is.holds.unswitched;
+    }
 
 -- ---- the beginning
 

@@ -1,5 +1,5 @@
 -- What a host's store has of its node's book.
-use Rattle.std.proofs.Common.{◌≡◌, ℕ, ◌+◌, ◌-◌, ◌^◌, ◌≤◌, min, cond, List, [], length, drop, refl, ap, ◌∙◌, arith, Some, None, subst, ◌&&◌, ◌∷◌}
+use Rattle.std.proofs.Common.{◌≡◌, ℕ, ◌+◌, ◌-◌, ◌^◌, ◌≤◌, Bool, true, false, cond, List, [], ◌∷◌, ◌++◌, length, drop, refl, ap, ◌∙◌, arith, subst}
 use Rattle.std.proofs.lemmas.List.{length-append, length-drop, length-map}
 use Rattle.smart_statements.specs.declared.entry.NodeEvent.{NodeEvent}
 use Rattle.smart_statements.specs.declared.entry.NodeEvent.TheVariants.{Arrive, Tick, Deliver, Firm}
@@ -8,83 +8,97 @@ use Rattle.smart_base.specs.Views.{View}
 use Rattle.agreement_laws.specs.Fronts.{IsFront}
 use Rattle.vote_book.specs.Entries.{entry_text}
 use Rattle.vote_book.specs.declared.entry.LogEntry.{LogEntry}
-use Rattle.batch_log.specs.Exact.{job_called, job_opened}
-use Rattle.batch_log.specs.declared.job.Job.{Job}
-use Rattle.batch_log.specs.declared.job.Job.TheVariants.{Rest, Torn, Close, SyncClose, Body, SyncBody, Gate, SyncGate}
-use Rattle.durable_store.specs.States.{StoreState}
-use Rattle.durable_store.specs.Exact.{log_begins, job_begins, own_log_called, store_called, started}
-use Rattle.durable_store.specs.Standing.{some}
-use Rattle.durable_store.specs.Turns.{closing, adds, rests, ends_group}
+use Rattle.store_laws.specs.States.{StoreState, Begun, of_group, group_of, some, due_job, begins, begun, advanced, ends, job_called, store_called, given, store_opened}
+use Rattle.store_laws.specs.Lives.{no_bytes}
+use Rattle.store_laws.specs.Unswitched.{never, no_tail, OnLog, InTurn, IsUnswitched}
+use Rattle.store_laws.specs.declared.job.Ending.{Ending}
+use Rattle.store_laws.specs.declared.job.Ending.TheVariants.{Closes, Repairs, Adds, Switches}
+use Rattle.store_laws.specs.declared.job.StoreCall.{StoreCall}
+use Rattle.store_laws.specs.declared.job.StoreCall.TheVariants.{On, WriteTail}
+use Rattle.store_laws.proofs.Booked.{group_front}
+use Rattle.store_laws.proofs.Unswitched.{due_unswitched, unswitched_begun, unswitched_called, unswitched_given, unswitched_opened}
 use Rattle.node_rules.specs.Nodes.{Node}
 use Rattle.node_rules.specs.Steps.{made_firm, step_of, opened, outset}
 use Rattle.world_rules.specs.Worlds.{course_of, Host, World, spelled_behind, host_after, host_of_node}
 use Rattle.world_laws.proofs.Keeps.{Hears, MayCome}
 use Rattle.replica_laws.proofs.Longer.{told_firm, longer-step}
-use Rattle.agreement_laws.proofs.Lists.{either}
 
--- how many entries the running job makes firm
-abbrev pub coming : Job → ℕ → ℕ
-coming job adding = cond (adds job) adding 0
-
--- all that was restored is firm, and all that is firm, that a job adds and that waits stands in the book
+-- All that was restored is firm. All that is firm, that the running group adds and that waits stands in the book. No switch was asked.
 pub record Fits {S : Type 0} (n : Node S) (s : StoreState) : Type 0 where
   pub restored : n.restored ≤ s.firm
   pub low : s.firm ≤ 2 ^ 64 - 1
-  pub written : s.firm + (coming s.log.job s.adding + length s.waiting) ≤ length n.entries
+  pub written : s.firm + (length s.adding + length s.waiting) ≤ length n.entries
+  pub unswitched : IsUnswitched s
 
 -- ---- a device call
 
--- a call of the log: what a job adds is firm behind its last call
-record Goes (restored firm coming waiting book : ℕ) : Type 0 where
-  restored_in : restored ≤ firm
-  low_in : firm ≤ 2 ^ 64 - 1
-  written_in : firm + (coming + waiting) ≤ book
-
-goes_job : (job : Job) (end restored firm adding waiting book : ℕ) → Goes restored firm (coming job adding) waiting book
-    → Goes restored (cond (ends_group job) (min (firm + adding) (2 ^ 64 - 1)) firm) (coming (job_called job end) adding) waiting book
-goes_job Rest end restored firm adding waiting book g = g
-goes_job Torn end restored firm adding waiting book g = g
-goes_job (Close None) end restored firm adding waiting book g = g
-goes_job (Close (Some bytes)) end restored firm adding waiting book g = g
-goes_job (SyncClose None) end restored firm adding waiting book g = g
-goes_job (SyncClose (Some bytes)) end restored firm adding waiting book g = g
-goes_job (Body bytes) end restored firm adding waiting book g = g
-goes_job (SyncBody next) end restored firm adding waiting book g = g
-goes_job (Gate next) end restored firm adding waiting book g = g
-goes_job (SyncGate next) end restored firm adding waiting book g =
-    record { restored_in = omega (arith, g.restored_in, g.low_in); low_in = omega arith; written_in = omega (arith, g.written_in) }
-
-fits-goes : {S : Type 0} (n : Node S) (s : StoreState) → Fits n s → Fits n (own_log_called s)
-fits-goes n s f =
-    let g = goes_job s.log.job s.log.end n.restored s.firm s.adding (length s.waiting) (length n.entries) (record { restored_in = f.restored; low_in = f.low; written_in = f.written }) in
-    record { restored = g.restored_in; low = g.low_in; written = g.written_in }
+-- the numbers alone
+record Goes {S : Type 0} (n : Node S) (s : StoreState) : Type 0 where
+  restored_in : n.restored ≤ s.firm
+  low_in : s.firm ≤ 2 ^ 64 - 1
+  written_in : s.firm + (length s.adding + length s.waiting) ≤ length n.entries
 
 -- a job begins: what waited, it adds
-abbrev begun_sum : Job → List (List ℕ) → ℕ → ℕ
-begun_sum job waiting adding =
-    coming (log_begins waiting job) (cond (rests job && some waiting) (length waiting) adding) + length (cond (rests job && some waiting) [] waiting)
+taken_length : (stops : List ℕ → Bool) (waiting : List (List ℕ)) → length (group_of stops waiting) + length (drop (length (group_of stops waiting)) waiting) ≡ length waiting
+taken_length stops waiting =
+    let all : length (group_of stops waiting ++ drop (length (group_of stops waiting)) waiting) ≡ length waiting = ap (λ (es : List (List ℕ)). length es) (group_front stops waiting) in
+    let both = length-append (group_of stops waiting) (drop (length (group_of stops waiting)) waiting) in
+    omega (arith, all, both)
 
-begun_same : (job : Job) (waiting : List (List ℕ)) (adding : ℕ) → begun_sum job waiting adding ≡ coming job adding + length waiting
-begun_same Rest [] adding = refl
-begun_same Rest (x ∷ xs) adding = omega arith
-begun_same Torn waiting adding = refl
-begun_same (Close None) waiting adding = refl
-begun_same (Close (Some bytes)) waiting adding = refl
-begun_same (SyncClose None) waiting adding = refl
-begun_same (SyncClose (Some bytes)) waiting adding = refl
-begun_same (Body bytes) waiting adding = refl
-begun_same (SyncBody next) waiting adding = refl
-begun_same (Gate next) waiting adding = refl
-begun_same (SyncGate next) waiting adding = refl
+goes-group : {S : Type 0} (n : Node S) (s : StoreState) (group : List (List ℕ)) → Fits n s → length group + length (drop (length group) s.waiting) ≡ length s.waiting → Goes n (begins (of_group group) s)
+goes-group n s [] f same = record { restored_in = f.restored; low_in = f.low; written_in = f.written }
+goes-group n s (entry ∷ entries) f same = record { restored_in = f.restored; low_in = f.low; written_in = omega (arith, same, f.written) }
 
-fits-begins : {S : Type 0} (n : Node S) (s : StoreState) → Fits n s → Fits n (job_begins s)
-fits-begins n s f = record { restored = f.restored; low = f.low; written = let same = begun_same s.log.job s.waiting s.adding in omega (arith, same, f.written) }
+goes-due : {S : Type 0} (n : Node S) (s : StoreState) → Fits n s → Goes n (begins (due_job never s) s)
+goes-due n s f =
+    due_unswitched never s f.unswitched (λ (job : Begun). Goes n (begins job s))
+    (λ torn. record { restored_in = f.restored; low_in = f.low; written_in = omega (arith, f.written) })
+    (λ calm. goes-group n s (group_of never s.waiting) f (taken_length never s.waiting))
 
-pub fits-called : {S : Type 0} (n : Node S) (s : StoreState) → Fits n s → Fits n (store_called s)
+goes-begun : {S : Type 0} (n : Node S) (s : StoreState) → Fits n s → Goes n (begun never s)
+goes-begun {S = S} n s f = by (some s.running)
+  where
+    by : (t : Bool) → Goes n (cond t s (begins (due_job never s) s))
+    by true = record { restored_in = f.restored; low_in = f.low; written_in = f.written }
+    by false = goes-due n s f
+
+fits-begun : {S : Type 0} (n : Node S) (s : StoreState) → Fits n s → Fits n (begun never s)
+fits-begun {S = S} n s f =
+    let g : Goes n (begun never s) = goes-begun n s f in
+    record { restored = g.restored_in; low = g.low_in; written = g.written_in; unswitched = unswitched_begun never s f.unswitched }
+
+-- the last call of a group: what it adds is firm
+goes-end : {S : Type 0} (n : Node S) (s : StoreState) (call : StoreCall) (ending : Ending) (q : StoreState) → InTurn (call ∷ []) ending s.torn → q.firm ≡ s.firm → q.adding ≡ s.adding → q.waiting ≡ s.waiting → Fits n s → Goes n (ends ending q)
+goes-end n s call (Closes odd) q turn firm adding waiting f = absurd turn
+goes-end n s call Repairs q turn firm adding waiting f = record {
+  restored_in = omega (arith, firm, f.restored);
+  low_in = omega (arith, firm, f.low);
+  written_in = let more = ap (λ (es : List (List ℕ)). length es) waiting in omega (arith, firm, more, f.written);
+}
+goes-end n s call (Adds end) q turn firm adding waiting f =
+    let more = ap (λ (es : List (List ℕ)). length es) waiting in
+    let added = ap (λ (es : List (List ℕ)). length es) adding in
+    record {
+      restored_in = omega (arith, firm, f.restored, f.low);
+      low_in = omega arith;
+      written_in = omega (arith, firm, more, added, f.written);
+    }
+goes-end n s call (Switches end last) q turn firm adding waiting f = absurd turn
+
+-- the next call of a job
+goes-job : {S : Type 0} (n : Node S) (calls : List StoreCall) (s : StoreState) → s.running ≡ calls → Fits n s → Goes n (job_called no_tail calls s)
+goes-job n [] s is f = record { restored_in = f.restored; low_in = f.low; written_in = f.written }
+goes-job n (WriteTail ∷ left) s is f =
+    let clash : OnLog (WriteTail ∷ left) = subst (λ (calls : List StoreCall). OnLog calls) is f.unswitched.log in
+    absurd clash
+goes-job n (On device call ∷ []) s is f =
+    goes-end n s (On device call) s.ending (advanced no_tail (On device call) [] s) (subst (λ (calls : List StoreCall). InTurn calls s.ending s.torn) is f.unswitched.turn) refl refl refl f
+goes-job n (On device call ∷ more ∷ left) s is f = record { restored_in = f.restored; low_in = f.low; written_in = f.written }
+
+pub fits-called : {S : Type 0} (n : Node S) (s : StoreState) → Fits n s → Fits n (store_called never no_tail s)
 fits-called {S = S} n s f =
-    either (λ (x : StoreState). Fits n x) (closing s.even.job) _ _ (record { restored = f.restored; low = f.low; written = f.written })
-    (either (λ (x : StoreState). Fits n x) (closing s.odd.job) _ _ (record { restored = f.restored; low = f.low; written = f.written })
-    (fits-goes n (job_begins s) (fits-begins n s f)))
+    let g : Goes n (store_called never no_tail s) = goes-job n (begun never s).running (begun never s) refl (fits-begun n s f) in
+    record { restored = g.restored_in; low = g.low_in; written = g.written_in; unswitched = unswitched_called never no_tail s f.unswitched }
 
 -- ---- a step of the node
 
@@ -98,12 +112,17 @@ front-long front entries f =
     omega (arith, long)
 
 -- what a longer book has more waits
-pub fits-longer : {S : Type 0} (n n' : Node S) (s : StoreState) → n'.restored ≡ n.restored → IsFront n.entries n'.entries → Fits n s → Fits n' (started s (spelled_behind (length n.entries) n'.entries))
+pub fits-longer : {S : Type 0} (n n' : Node S) (s : StoreState) → n'.restored ≡ n.restored → IsFront n.entries n'.entries → Fits n s → Fits n' (given (spelled_behind (length n.entries) n'.entries) s)
 fits-longer n n' s restored front f =
     let more = behind-length (length n.entries) n'.entries in
     let all = length-append s.waiting (spelled_behind (length n.entries) n'.entries) in
     let long = front-long n.entries n'.entries front in
-    record { restored = omega (arith, restored, f.restored); low = f.low; written = omega (arith, more, all, long, f.written) }
+    record {
+      restored = omega (arith, restored, f.restored);
+      low = f.low;
+      written = omega (arith, more, all, long, f.written);
+      unswitched = unswitched_given s (spelled_behind (length n.entries) n'.entries) f.unswitched;
+    }
 
 told-kept : {S : Type 0} (n : Node S) (event : NodeEvent) → ((told_firm n event).restored ≡ n.restored) × ((told_firm n event).entries ≡ n.entries)
 told-kept n (Arrive bytes) = (refl, refl)
@@ -119,8 +138,8 @@ fits-stepped {S = S} m h event f =
     let l = longer-step m h.node event in
     let told = told-kept h.node event in
     let front : IsFront h.node.entries n'.entries = subst (λ (es : List LogEntry). IsFront es n'.entries) told.1 l.book in
-    let g : Fits n' (started h.store (spelled_behind (length h.node.entries) n'.entries)) = fits-longer h.node n' h.store (l.restored_is ∙ told.0) front f in
-    record { restored = g.restored; low = g.low; written = g.written }
+    let g : Fits n' (given (spelled_behind (length h.node.entries) n'.entries) h.store) = fits-longer h.node n' h.store (l.restored_is ∙ told.0) front f in
+    record { restored = g.restored; low = g.low; written = g.written; unswitched = g.unswitched }
 
 -- ---- what is heard
 
@@ -149,10 +168,12 @@ firm-grows {S = S} h count told f =
 
 -- ---- the beginning
 
-pub coming_none : (job : Job) → coming job 0 ≡ 0
-coming_none job = either (λ k. k ≡ 0) (adds job) 0 0 refl refl
-
 -- a host that has just opened
 pub fits-opened : {S : Type 0} (m : Meaning S) (secret : List ℕ) (id : ℕ) (view : View) (period : ℕ)
     → Fits (opened (outset m secret id view period)) (host_of_node (opened (outset m secret id view period))).store
-fits-opened m secret id view period = record { restored = omega arith; low = omega arith; written = let none = coming_none (job_opened []) in omega (arith, none) }
+fits-opened m secret id view period = record {
+  restored = omega arith;
+  low = omega arith;
+  written = omega arith;
+  unswitched = unswitched_given (store_opened no_bytes) (spelled_behind 0 (opened (outset m secret id view period)).entries) (unswitched_opened no_bytes refl refl refl);
+}

@@ -19,10 +19,10 @@ use Rattle.smart_service.specs.declared.replica.Replica.{Replica}
 use Rattle.vote_book.specs.Books.{Among}
 use Rattle.vote_book.specs.Entries.{entry_text}
 use Rattle.agreement_laws.specs.Statements.{Statement, signer_of, said, reply_stated}
-use Rattle.durable_store.specs.Restored.{Images, restores}
+use Rattle.store_laws.specs.Restored.{Images, restores}
 use Rattle.world_rules.specs.Crashes.{bytes_held, images_left, wrong_images}
 use Rattle.world_rules.specs.declared.crash.Image.{Image}
-use Rattle.durable_store.specs.Standing.{MayLeave}
+use Rattle.store_laws.specs.States.{MayLeave}
 use Rattle.node_rules.specs.declared.node.Delivery.{Delivery}
 use Rattle.world_rules.specs.Secrets.{group_secret, outset_place}
 use Rattle.world_rules.specs.Premises.{is_among}
@@ -76,7 +76,7 @@ has_place m w left place h = not (is_gone w h.node.id) && nat_le place (restored
 
 -- bytes that crashes now may leave of the devices of all correct members, whether their nodes run or have crashed
 abbrev pub MayBeLeft : {S : Type 0} → World S → (ℕ → Images) → Type 0
-MayBeLeft w left = Each (λ h. is_gone w h.node.id ≡ false → MayLeave h.store (left h.node.id)) w.hosts
+MayBeLeft w left = Each (λ h. is_gone w h.node.id ≡ false → MayLeave h.store.devices (left h.node.id)) w.hosts
 
 -- A place that crashes cannot take back. Whatever crashes leave of the devices of correct members, more than f of these members restore that
 -- place or a later one. INTERIM(views): later these are members of the view that is in force at the place.
@@ -90,12 +90,12 @@ pub record IsKept {S : Type 0} (m : Meaning S) (w : World S) (place : ℕ) : Typ
 -- INTERIM(checkpoints): later devices restore the cut of that diary.
 pub record Recovers {S : Type 0} (m : Meaning S) (w : World S) (h : Host S) : Type 0 where
   pub possible : (image : Image) → wrong_images h.store (images_left image [] h.store) ≡ None
-  pub leaves : (image : Image) → MayLeave h.store (images_left image [] h.store)
-  pub diary : (left : Images) → MayLeave h.store left → (restores left).entries ≡ map entry_text (life_crashed h left).diary
-  pub undamaged : (left : Images) → MayLeave h.store left → damaged group_secret outset_place w.view (restores left).entries ≡ None
+  pub leaves : (image : Image) → MayLeave h.store.devices (images_left image [] h.store)
+  pub diary : (left : Images) → MayLeave h.store.devices left → (restores left).entries ≡ map entry_text (life_crashed h left).diary
+  pub undamaged : (left : Images) → MayLeave h.store.devices left → damaged group_secret outset_place w.view (restores left).entries ≡ None
   pub restarts : h.up ≡ false → damaged group_secret outset_place w.view (restores (bytes_held h.store)).entries ≡ None
-  pub within : (left : Images) → MayLeave h.store left → (restored_replica m w.view h left).place ≤ length w.chosen
-  pub right : (left : Images) → MayLeave h.store left → restored_replica m w.view h left ≡ state m w.view (take (restored_replica m w.view h left).place w.chosen)
+  pub within : (left : Images) → MayLeave h.store.devices left → (restored_replica m w.view h left).place ≤ length w.chosen
+  pub right : (left : Images) → MayLeave h.store.devices left → restored_replica m w.view h left ≡ state m w.view (take (restored_replica m w.view h left).place w.chosen)
 
 -- ---- replies
 

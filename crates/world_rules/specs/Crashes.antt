@@ -1,28 +1,18 @@
 -- What a crash leaves of a member's store, as a script names it, and of which book.
-use Rattle.std.specs.Prelude.{ℕ, ◌-◌, ◌==◌, Bool, true, false, List, [], ◌∷◌, ◌++◌, length, replicate, if◌then◌else◌, Option, option_map}
+use Rattle.std.specs.Prelude.{ℕ, ◌-◌, ◌==◌, Bool, List, [], ◌∷◌, ◌++◌, length, replicate, if◌then◌else◌, Option, option_map}
 use Rattle.smart_base.specs.Lists.{or_else}
 use Rattle.disk_model.specs.Cells.{Cells, put}
-use Rattle.batch_log.specs.declared.job.Job.{Job}
-use Rattle.batch_log.specs.declared.job.Job.TheVariants.{Rest, Torn, Close, SyncClose, Body, SyncBody, Gate, SyncGate}
-use Rattle.checkpoint_store.specs.Slots.{is_odd}
-use Rattle.durable_store.specs.Restored.{Images}
-use Rattle.durable_store.specs.States.{StoreState}
+use Rattle.store_laws.specs.Restored.{Images}
+use Rattle.store_laws.specs.States.{StoreState}
 use Rattle.world_rules.specs.Wrong.{wrong_in}
 use Rattle.world_rules.specs.declared.crash.Image.{Image}
 use Rattle.world_rules.specs.declared.crash.Image.TheVariants.{Old, New}
 use Rattle.world_rules.specs.declared.crash.Patch.{Patch}
 use Rattle.world_rules.specs.declared.crash.NotAnImage.{NotAnImage}
 
--- the cells of device 0, the even log; device 1 is the odd log
-abbrev pub even_log : StoreState → Cells
-even_log s = if is_odd s.generation then s.other_log else s.log.cells
-
-abbrev pub odd_log : StoreState → Cells
-odd_log s = if is_odd s.generation then s.log.cells else s.other_log
-
 -- the bytes that reads of the four devices give
 abbrev pub bytes_held : StoreState → Images
-bytes_held s = record { even_log = (even_log s).now; odd_log = (odd_log s).now; even_slot = s.even.cells.now; odd_slot = s.odd.cells.now }
+bytes_held s = record { even_log = s.devices.even_log.now; odd_log = s.devices.odd_log.now; even_slot = s.devices.even_slot.now; odd_slot = s.devices.odd_slot.now }
 
 -- the bytes of a device at its last sync, or as it reads now
 abbrev pub cells_left : Image → Cells → List ℕ
@@ -41,10 +31,10 @@ with_patches device (p ∷ ps) bytes = with_patches device ps (if p.device == de
 -- the bytes of the four devices after a crash, as a script names them: an image with patches
 abbrev pub images_left : Image → List Patch → StoreState → Images
 images_left image patches s = record {
-  even_log = with_patches 0 patches (cells_left image (even_log s));
-  odd_log = with_patches 1 patches (cells_left image (odd_log s));
-  even_slot = with_patches 2 patches (cells_left image s.even.cells);
-  odd_slot = with_patches 3 patches (cells_left image s.odd.cells);
+  even_log = with_patches 0 patches (cells_left image s.devices.even_log);
+  odd_log = with_patches 1 patches (cells_left image s.devices.odd_log);
+  even_slot = with_patches 2 patches (cells_left image s.devices.even_slot);
+  odd_slot = with_patches 3 patches (cells_left image s.devices.odd_slot);
 }
 
 abbrev pub wrong_on : ℕ → Cells → List ℕ → Option NotAnImage
@@ -53,26 +43,19 @@ wrong_on device cells bytes = option_map (λ at. record { device = device; at = 
 -- the first byte that no crash leaves, by device 0 to 3; none if a crash may leave these bytes
 unfoldable pub wrong_images : StoreState → Images → Option NotAnImage
 wrong_images s left =
-    or_else (wrong_on 0 (even_log s) left.even_log)
-    (or_else (wrong_on 1 (odd_log s) left.odd_log) (or_else (wrong_on 2 s.even.cells left.even_slot) (wrong_on 3 s.odd.cells left.odd_slot)))
+    or_else (wrong_on 0 s.devices.even_log left.even_log)
+    (or_else (wrong_on 1 s.devices.odd_log left.odd_log) (or_else (wrong_on 2 s.devices.even_slot left.even_slot) (wrong_on 3 s.devices.odd_slot left.odd_slot)))
 
 -- ---- the book that it leaves
 
--- a log's job before it has closed the gate that an earlier crash left torn or absent
-abbrev pub is_unclosed : Job → Bool
-is_unclosed Torn = true
-is_unclosed (Close waiting) = true
-is_unclosed (SyncClose waiting) = true
-is_unclosed Rest = false
-is_unclosed (Body bytes) = false
-is_unclosed (SyncBody next) = false
-is_unclosed (Gate next) = false
-is_unclosed (SyncGate next) = false
+-- a store that has not closed the gate that an earlier crash left torn or absent after the groups of its log
+abbrev pub is_unclosed : StoreState → Bool
+is_unclosed s = s.torn
 
 -- the book of which a crash now leaves the first entries: this life's, or the earlier one's until the torn gate is closed
 abbrev pub written_book : {A : Type 0} → StoreState → List A → List A → List A
-written_book s book aside = if is_unclosed s.log.job then aside else book
+written_book s book aside = if is_unclosed s then aside else book
 
 -- the book of the earlier life, until the torn gate is closed; then it is lost
 abbrev pub still_aside : {A : Type 0} → StoreState → List A → List A
-still_aside s aside = if is_unclosed s.log.job then aside else []
+still_aside s aside = if is_unclosed s then aside else []

@@ -2,7 +2,7 @@
 use Rattle.std.specs.Prelude.{ℕ, ◌≡◌, true, false, List, [], take, map, Option, Some, None}
 use Rattle.smart_base.specs.Lists.{Each}
 use Rattle.vote_book.specs.Entries.{entry_text}
-use Rattle.durable_store.specs.Restored.{restores}
+use Rattle.store_laws.specs.Restored.{restores}
 use Rattle.world_rules.specs.Crashes.{bytes_held}
 use Rattle.std.specs.List.{flat_map}
 use Rattle.smart_base.specs.Views.{View}

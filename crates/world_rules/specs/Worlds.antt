@@ -34,10 +34,10 @@ use Rattle.node_rules.specs.declared.node.Fired.{Fired}
 use Rattle.node_rules.specs.declared.node.Fired.TheVariants as fires
 use Rattle.vote_book.specs.Entries.{entry_text}
 use Rattle.vote_book.specs.declared.entry.LogEntry.{LogEntry}
-use Rattle.durable_store.specs.States.{StoreState}
-use Rattle.durable_store.specs.Exact.{call_due, store_called, started, store_opened}
-use Rattle.durable_store.specs.Lives.{no_bytes}
-use Rattle.durable_store.specs.Restored.{Images, restores}
+use Rattle.store_laws.specs.Restored.{Images, restores}
+use Rattle.store_laws.specs.States.{StoreState, is_due, store_called, given, store_opened}
+use Rattle.store_laws.specs.Lives.{no_bytes}
+use Rattle.store_laws.specs.Unswitched.{never, no_tail}
 use Rattle.world_rules.specs.Crashes.{images_left, wrong_images, bytes_held, written_book, still_aside}
 use Rattle.world_rules.specs.declared.crash.Image.{Image}
 use Rattle.world_rules.specs.declared.crash.Patch.{Patch}
@@ -215,7 +215,7 @@ remembered course old new = if course.remembers then new else old
 abbrev pub host_after : {S : Type 0} → Course S → Host S → Outcome S → Host S
 host_after course h o = record h {
   node = released o.node;
-  store = started h.store (spelled_behind (length h.node.entries) o.node.entries);
+  store = given (spelled_behind (length h.node.entries) o.node.entries) h.store;
   life = remembered course h.life (life_firm h.life h.node o.node);
   delivered = h.delivered ++ flat_map delivery_in o.fired;
 }
@@ -259,7 +259,7 @@ life_called l s = record { diary = l.diary; aside = still_aside s l.aside }
 
 -- the host after its store has made its next device call
 unfoldable pub disk_called : {S : Type 0} → Course S → Host S → Host S
-disk_called course h = record h { store = store_called h.store; life = remembered course h.life (life_called h.life (store_called h.store)) }
+disk_called course h = record h { store = store_called never no_tail h.store; life = remembered course h.life (life_called h.life (store_called never no_tail h.store)) }
 
 -- the world after a device call: the node hears how many entries of its life are firm, if they are more than it knows
 abbrev pub hears_firm : {S : Type 0} → Course S → ℕ → World S → Host S → World S
@@ -273,7 +273,7 @@ abbrev pub host_calls : {S : Type 0} → Course S → ℕ → World S → Option
 host_calls course i w None = w
 host_calls course i w (Some h) =
     if not (is_up w h) then w
-    else if call_due h.store then hears_firm course i w (disk_called course h)
+    else if is_due never h.store then hears_firm course i w (disk_called course h)
     else w
 
 -- the world after the store at an index made its next device call, if one is due; its node hears what is firm then
@@ -284,7 +284,7 @@ calls_disk course i w = if is_halted w then w else host_calls course i w (slice_
 abbrev pub takes_due : {S : Type 0} → Course S → ℕ → World S → Option (Host S) → World S
 takes_due course i w None = w
 takes_due course i w (Some h) =
-    if call_due h.store then calls_disk course i w
+    if is_due never h.store then calls_disk course i w
     else if is_some h.node.waiting then node_takes course i Deliver w
     else w
 
@@ -562,7 +562,7 @@ abbrev pub host_resumed : {S : Type 0} → Host S → Node S → Host S
 host_resumed h n = record h {
   node = n;
   up = true;
-  store = started h.store (spelled_behind n.restored n.entries);
+  store = given (spelled_behind n.restored n.entries) h.store;
   resumed = n.replica.place;
   delivered = [];
   earlier = h.earlier ++ h.delivered;
@@ -660,7 +660,7 @@ abbrev pub host_of_node : {S : Type 0} → Node S → Host S
 host_of_node n = record {
   node = n;
   up = true;
-  store = started (store_opened no_bytes) (spelled_behind 0 n.entries);
+  store = given (spelled_behind 0 n.entries) (store_opened no_bytes);
   life = record { diary = []; aside = [] };
   resumed = 0;
   delivered = [];

@@ -12,4 +12,5 @@ loop-done-preserved g c =
           (i.still told).same (i.read told) (c.in_ok-piece.ensures.bytes told) c.as_slice.ensures c.in_ok-push_piece.ensures.ok;
       still = λ told. read_on g.D.Disk.cells g.D.Disk.moment g.D.Disk.left_since c.args.device.now c.loop-done.device c.read.new.self (i.still told) (record { same = c.read.ensures.same told; time = c.read.ensures.time });
       faults = omega (arith, i.faults, c.read.ensures.cause.later);
+      wants = omega (arith, i.wants, c.read.ensures.want.later);
     }

@@ -1,6 +1,6 @@
 use Rattle.std.proofs.Common.{◌≡◌, ◌++◌, drop, map}
 use Rattle.vote_book.specs.Entries.{entry_text}
-use Rattle.durable_store.specs.Fit.{AreEntries}
+use Rattle.store_plan.specs.Fit.{AreEntries}
 use Rattle.member_store.proofs.store.texts.Given as goal
 
 -- the texts so far and those of the entries left are all

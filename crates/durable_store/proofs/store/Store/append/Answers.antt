@@ -1,164 +1,79 @@
-use Rattle.std.proofs.Common.{◌≤◌, ◌++◌, refl, length, ◌∙◌, [], sym, ap, subst, inl, inr, ⊎_elim, ◌≡◌, true}
-use Rattle.durable_store.specs.Restored.{restores}
-use Rattle.durable_store.specs.Turns.{rests}
-use Rattle.durable_store.specs.Standing.{StoreStands, AreImages, is_idle, calls_log, with, running, to_come}
-use Rattle.durable_store.specs.Calls.{LeftSince}
-use Rattle.durable_store.specs.Wholes.{Passes}
-use Rattle.durable_store.proofs.Passing.{passes_none, passes_same}
-use Rattle.durable_store.proofs.Called.{on_ok, on_err}
-use Rattle.durable_store.proofs.Fronts.{counted_now, present_now}
-use Rattle.durable_store.proofs.Lasting.{images_now}
-use Rattle.durable_store.proofs.Grows.{growth_still}
-use Rattle.durable_store.proofs.Appending.{same_images, still_known, ran_same, all_same, calls_same, to_come_same, taken_back, firm_is, restores_all, same_wanted}
+use Rattle.std.proofs.Common.{◌≡◌, ◌≤◌, ◌∙◌, ◌+◌, ◌++◌, List, ℕ, min, length, take, drop, sym, ap, subst}
+use Rattle.std.proofs.lemmas.List.{take_at}
+use Rattle.std.proofs.lemmas.Result.{err_from_is_err_and}
+use Rattle.store_laws.specs.Firm.{GroupAdds}
+use Rattle.store_laws.specs.States.{StoreState, greatest, group_of, given}
+use Rattle.store_laws.proofs.Given.{any_waits}
+use Rattle.store_plan.specs.Plans.{state_with}
+use Rattle.store_plan.proofs.Due.{nowhere}
+use Rattle.durable_store.specs.Disks.{cells_of}
+use Rattle.durable_store.specs.Runs.{IsUnasked, no_tail}
+use Rattle.durable_store.specs.Stores.{state_of, Stands}
+use Rattle.durable_store.proofs.Appends.{given_unasked, waits_unasked, run_from, none_taken, taken_back}
 use Rattle.durable_store.proofs.store.Store.append.Goals as goal
 
-pub returns-in_err-start-clause-crash : goal.returns-in_err-start-clause-crash
-returns-in_err-start-clause-crash g c = λ is_open told added kept others h images are.
+pub returns-in_err-start-clause-ran : goal.returns-in_err-start-clause-ran
+returns-in_err-start-clause-ran g c = λ is_open.
+    let p = err_from_is_err_and c.from_residual.result c.from_residual.ensures.1 in
+    none_taken g.D.Disk.told g.D.Disk.remembers g.D.Disk.cells g.D.Disk.moment g.D.Disk.left_since g.E.Stops.stops c.from_residual.result p.0 p.1 c.args.entries c.args.self.now c.start.new.self c.in_err-start.ensures.err
+
+pub returns-in-Ok-clause-ran : goal.returns-in-Ok-clause-ran
+returns-in-Ok-clause-ran g c = λ is_open. (
+  run_from g.D.Disk.told g.D.Disk.remembers g.D.Disk.cells g.D.Disk.moment g.D.Disk.left_since g.E.Stops.stops (record { made = 0; entries = c.new.result }) no_tail (λ d. state_with c.start.new.self.plan d) (λ d. given c.args.entries (state_with c.args.self.now.plan d)) (λ q. q) c.start.new.self.disks c.args.self.now.disks c.finish.new.self
+      (λ i. record { made = 0; entries = c.new.ensures i }) c.in_ok-start.ensures.started c.in_ok-start.ensures.disks c.finish.ensures.ran,
+  tt,
+)
+
+pub returns-clause-ran : goal.returns-clause-ran
+returns-clause-ran g c = λ was_open.
     let s = c.args.self.now in
-    still_known s added kept others _ _ h images (subst (λ x. AreImages x images) c.in_err-start.ensures.err are)
+    let t = c.finish.new.self in
+    let run = run_from g.D.Disk.told g.D.Disk.remembers g.D.Disk.cells g.D.Disk.moment g.D.Disk.left_since g.E.Stops.stops (record { made = 0; entries = c.new.result }) no_tail (λ d. state_with c.start.new.self.plan d) (λ d. given c.args.entries (state_with c.args.self.now.plan d)) (λ q. q) c.start.new.self.disks c.args.self.now.disks c.finish.new.self
+    (λ i. record { made = 0; entries = c.new.ensures i }) c.in_ok-start.ensures.started c.in_ok-start.ensures.disks c.finish.ensures.ran in
+    let waits_now : t.state ≡ _ → t.plan.waiting ≡ s.plan.waiting ++ c.args.entries = λ is_open.
+    c.in-Err.ensures.held nowhere (subst (λ (q : StoreState). IsUnasked q) (sym (c.in_ok-start.ensures.started nowhere)) (given_unasked (state_with s.plan nowhere) c.args.entries (c.requires.unasked was_open nowhere))) is_open
+    ∙ ap (λ (q : StoreState). q.waiting) (c.in_ok-start.ensures.started nowhere) in
+    taken_back g.D.Disk.told g.D.Disk.remembers g.D.Disk.cells g.D.Disk.moment g.D.Disk.left_since g.E.Stops.stops no_tail (λ d. given c.args.entries (state_with s.plan d)) s.disks t c.take_back.new.self c.len-waited.result s.plan.waiting (s.plan.waiting ++ c.args.entries) run c.take_back.ensures
+    (λ is_open. ap (λ (w : List (List ℕ)). take c.len-waited.result w) (waits_now is_open) ∙ take_at s.plan.waiting c.args.entries c.len-waited.result (sym c.len-waited.ensures.value))
+    waits_now
 
-pub returns-in_err-start-clause-any_moment : goal.returns-in_err-start-clause-any_moment
-returns-in_err-start-clause-any_moment g c = λ is_open told remembers calls added kept others h images left.
-    let s = c.args.self.now in
-    still_known s added kept others _ _ h images (images_now (g.met.D.Disk.only_now remembers) s images (subst (λ x. LeftSince s x images) c.in_err-start.ensures.err left))
+pub returns-clause-stands : goal.returns-clause-stands
+returns-clause-stands g c = λ is_open told.
+    let t = c.finish.new.self in
+    let has = c.finish.ensures.stands is_open told in
+    subst (λ (q : StoreState). Stands q) (sym (c.take_back.ensures (cells_of g.D.Disk.cells t.disks))) (has.0, any_waits (state_of g.D.Disk.cells t) has.0 (take c.len-waited.result t.plan.waiting) has.1)
 
-pub finish-answer-requires-clause-stands : goal.finish-answer-requires-clause-stands
-finish-answer-requires-clause-stands g c = λ told.
-    let u = c.requires.stands c.in_ok-start.ensures.closes.0 told in
-    record { added = u.added; kept = u.kept; others = u.others; stands = c.start.ensures.stands u.added u.kept u.others u.stands }
+-- a switch neither runs nor waits after it
+pub returns-in_err-start-clause-unasked : goal.returns-in_err-start-clause-unasked
+returns-in_err-start-clause-unasked g c = λ is_open d.
+    let was_open = sym (ap (λ q. q.state) c.in_err-start.ensures.err) ∙ is_open in
+    subst (λ q. IsUnasked (state_with q.plan d)) (sym c.in_err-start.ensures.err) (c.requires.unasked was_open d)
 
-pub returns-then-is_err-clause-underway : goal.returns-then-is_err-clause-underway
-returns-then-is_err-clause-underway g c = λ is_open told.
-    let u = c.finish-answer.ensures.underway (sym c.take_back.ensures.state ∙ is_open) told in
-    record { added = u.added; kept = u.kept; others = u.others; stands = c.take_back.ensures.stands u.added u.kept u.others u.stands }
+pub returns-in-Ok-clause-unasked : goal.returns-in-Ok-clause-unasked
+returns-in-Ok-clause-unasked g c = λ is_open d.
+    c.finish.ensures.unasked is_open d
+    (subst (λ (q : StoreState). IsUnasked q) (sym (c.in_ok-start.ensures.started d)) (given_unasked (state_with c.args.self.now.plan d) c.args.entries (c.requires.unasked c.in_ok-start.ensures.closes.0 d)))
 
-pub returns-then-is_err-clause-unchanged : goal.returns-then-is_err-clause-unchanged
-returns-then-is_err-clause-unchanged g c =
-    let s = c.args.self.now in
-    let m = c.start.new.self in
-    let t = c.finish-answer.new.self in
-    let e = c.in_ok-start.ensures in
-    let b = c.take_back.ensures in
-    on_err c.finish-answer.result _ _ (λ same is_open calls rest.
-    taken_back s m t c.take_back.new.self c.args.entries _ c.len-waited.ensures.value e.waiting e.slots e.log e.other_log e.generation e.firm e.adding e.state
-    (same (sym b.state ∙ is_open) (calls_same s m c.args.entries e.log e.waiting e.slots calls) (ap (λ l. rests l.job) e.log ∙ rest))
-    b.slots b.log b.other_log b.generation b.firm b.adding b.state b.waiting) c.finish-answer.ensures.unchanged
+pub returns-clause-unasked : goal.returns-clause-unasked
+returns-clause-unasked g c = λ is_open d.
+    let t = c.finish.new.self in
+    let has = c.finish.ensures.unasked is_open d
+    (subst (λ (q : StoreState). IsUnasked q) (sym (c.in_ok-start.ensures.started d)) (given_unasked (state_with c.args.self.now.plan d) c.args.entries (c.requires.unasked c.in_ok-start.ensures.closes.0 d))) in
+    subst (λ (q : StoreState). IsUnasked q) (sym (c.take_back.ensures d)) (waits_unasked (state_with t.plan d) (take c.len-waited.result t.plan.waiting) has)
 
-pub returns-else-is_err-clause-ok : goal.returns-else-is_err-clause-ok
-returns-else-is_err-clause-ok g c =
-    let s = c.args.self.now in
-    let e = c.in_ok-start.ensures in
-    on_ok c.finish-answer.result _ _ (λ ok told added kept others h.
-    subst (λ l. StoreStands c.finish-answer.new.self [] (with kept l) []) (all_same s c.start.new.self c.args.entries e.log e.waiting added)
-    (ok told added kept others (e.stands added kept others h))) c.finish-answer.ensures.ok
+-- what became firm, and what waits
+pub returns-in-Ok-clause-waits : goal.returns-in-Ok-clause-waits
+returns-in-Ok-clause-waits g c =
+    let given_is = ap (λ (q : StoreState). q.waiting) (c.in_ok-start.ensures.started nowhere) in
+    let left = c.in-Ok.ensures.waits nowhere
+    (subst (λ (q : StoreState). IsUnasked q) (sym (c.in_ok-start.ensures.started nowhere)) (given_unasked (state_with c.args.self.now.plan nowhere) c.args.entries (c.requires.unasked c.in_ok-start.ensures.closes.0 nowhere))) in
+    left ∙ ap (λ (w : List (List ℕ)). drop (length (group_of g.E.Stops.stops w)) w) given_is
 
-pub returns-else-is_err-clause-restores : goal.returns-else-is_err-clause-restores
-returns-else-is_err-clause-restores g c =
-    on_ok c.finish-answer.result _ _ (λ ok told added kept others h images are. restores_all c.finish-answer.new.self _ (ok told added kept others h) images are) (returns-else-is_err-clause-ok g c)
-
-pub returns-else-is_err-clause-firm : goal.returns-else-is_err-clause-firm
-returns-else-is_err-clause-firm g c =
-    let s = c.args.self.now in
-    let e = c.in_ok-start.ensures in
-    on_ok c.finish-answer.result _ _ (λ firm. firm_is c.finish-answer.new.self.firm s.firm c.start.new.self.firm (to_come s) _ _ e.firm (to_come_same s c.start.new.self c.args.entries e.log e.waiting e.adding) firm) c.finish-answer.ensures.firm
-
-pub returns-in_err-start-clause-counted : goal.returns-in_err-start-clause-counted
-returns-in_err-start-clause-counted g c = λ told added kept others h images are same.
-    let s = c.args.self.now in
-    let e = c.in_err-start.ensures in
-    subst (λ x. x.firm ≤ length (restores images).entries) (sym e.err) (counted_now s added kept others h images (subst (λ x. AreImages x images) e.err are) (same ∙ e.generation))
-
-pub returns-then-is_err-clause-counted : goal.returns-then-is_err-clause-counted
-returns-then-is_err-clause-counted g c = λ told added kept others h images are same.
-    let e = c.in_ok-start.ensures in
-    let b = c.take_back.ensures in
-    subst (λ n. n ≤ length (restores images).entries) (sym b.firm)
-    (c.finish-answer.ensures.counted told added kept others (e.stands added kept others h) images (same_images c.finish-answer.new.self c.take_back.new.self b.slots b.log b.other_log b.generation images are) (same ∙ b.generation))
-
-pub returns-else-is_err-clause-counted : goal.returns-else-is_err-clause-counted
-returns-else-is_err-clause-counted g c = λ told added kept others h images are same.
-    let e = c.in_ok-start.ensures in
-    c.finish-answer.ensures.counted told added kept others (e.stands added kept others h) images are same
-
-pub returns-in_err-start-clause-present : goal.returns-in_err-start-clause-present
-returns-in_err-start-clause-present g c = λ told calls added kept others h images are.
-    let e = c.in_err-start.ensures in
-    present_now c.args.self.now added kept others h calls images (subst (λ x. AreImages x images) e.err are) ∙ sym e.generation
-
-pub returns-then-is_err-clause-present : goal.returns-then-is_err-clause-present
-returns-then-is_err-clause-present g c = λ told calls added kept others h images are.
-    let e = c.in_ok-start.ensures in
-    let b = c.take_back.ensures in
-    c.finish-answer.ensures.present told (calls_same c.args.self.now c.start.new.self c.args.entries e.log e.waiting e.slots calls) added kept others (e.stands added kept others h) images
-    (same_images c.finish-answer.new.self c.take_back.new.self b.slots b.log b.other_log b.generation images are)
-    ∙ sym b.generation
-
-pub returns-else-is_err-clause-present : goal.returns-else-is_err-clause-present
-returns-else-is_err-clause-present g c = λ told calls added kept others h images are.
-    let e = c.in_ok-start.ensures in
-    c.finish-answer.ensures.present told (calls_same c.args.self.now c.start.new.self c.args.entries e.log e.waiting e.slots calls) added kept others (e.stands added kept others h) images are
-
--- ---- what the next life begins with
-
-pub returns-in_err-start-clause-lives : goal.returns-in_err-start-clause-lives
-returns-in_err-start-clause-lives g c = λ is_open told added kept others h w images are.
-    growth_still c.args.self.now added kept others _ _ h w images (subst (λ x. AreImages x images) c.in_err-start.ensures.err are)
-
--- ---- memory runs out
-
-pub returns-then-is_err-clause-no_memory : goal.returns-then-is_err-clause-no_memory
-returns-then-is_err-clause-no_memory g c =
-    let s = c.args.self.now in
-    let t = c.finish-answer.new.self in
-    let e = c.in_ok-start.ensures in
-    let b = c.take_back.ensures in
-    on_err c.finish-answer.result _ _ (λ ran is_open told added kept others h.
-    let r = ran (sym b.state ∙ is_open) told added kept others (e.stands added kept others h) in
-    let stands = subst (λ l. StoreStands t [] (with kept l) r.left) (ran_same s c.start.new.self c.args.entries e.log e.waiting added) r.stands in
-    let calm : calls_log c.take_back.new.self ≡ true = rw (b.slots) r.calm in
-    let free : is_idle c.take_back.new.self ≡ true = rw (b.slots, b.log) r.idle in
-    inr (record { left = r.left; stands = b.stands [] (with kept (running s added)) r.left stands; known = r.known; calm = calm; idle = free })) c.finish-answer.ensures.no_memory
-
--- ---- the moments of the call
-
-pub returns-in_err-start-clause-moments : goal.returns-in_err-start-clause-moments
-returns-in_err-start-clause-moments g c = λ is_open told remembers added kept others h.
-    let s = c.args.self.now in
-    subst (λ x. Passes s x kept others (running s added) (running s added ++ (s.waiting ++ c.args.entries))) (sym c.in_err-start.ensures.err) (passes_none (g.met.D.Disk.only_now remembers) s added kept others h _ _)
-
-pub returns-then-is_err-clause-moments : goal.returns-then-is_err-clause-moments
-returns-then-is_err-clause-moments g c = λ is_open told remembers added kept others h.
-    let s = c.args.self.now in
-    let m = c.start.new.self in
-    let e = c.in_ok-start.ensures in
-    let b = c.take_back.ensures in
-    passes_same s m c.finish-answer.new.self c.take_back.new.self kept others _ _ _ _ e.slots e.log e.other_log e.generation b.slots b.log b.other_log
-    (ran_same s m c.args.entries e.log e.waiting added) (all_same s m c.args.entries e.log e.waiting added)
-    (c.finish-answer.ensures.moments told remembers added kept others (e.stands added kept others h))
-
-pub returns-else-is_err-clause-moments : goal.returns-else-is_err-clause-moments
-returns-else-is_err-clause-moments g c = λ is_open told remembers added kept others h.
-    let s = c.args.self.now in
-    let m = c.start.new.self in
-    let t = c.finish-answer.new.self in
-    let e = c.in_ok-start.ensures in
-    passes_same s m t t kept others _ _ _ _ e.slots e.log e.other_log e.generation refl refl refl
-    (ran_same s m c.args.entries e.log e.waiting added) (all_same s m c.args.entries e.log e.waiting added)
-    (c.finish-answer.ensures.moments told remembers added kept others (e.stands added kept others h))
-
--- ---- what closes the store
-
-pub returns-in_err-start-clause-want : goal.returns-in_err-start-clause-want
-returns-in_err-start-clause-want g c = λ is is_open. inl (c.start.ensures.state ∙ is_open)
-
-pub returns-then-is_err-clause-want : goal.returns-then-is_err-clause-want
-returns-then-is_err-clause-want g c = λ is is_open.
-    let e = c.in_ok-start.ensures in
-    let b = c.take_back.ensures in
-    ⊎_elim (λ still. inl (b.state ∙ still)) (λ one. inr (same_wanted c.args.self.now c.start.new.self c.finish-answer.new.self c.take_back.new.self e.slots e.log b.slots b.log one)) (c.finish-answer.ensures.want is)
-
-pub returns-else-is_err-clause-want : goal.returns-else-is_err-clause-want
-returns-else-is_err-clause-want g c = λ is is_open.
-    let e = c.in_ok-start.ensures in
-    let t = c.finish-answer.new.self in
-    ⊎_elim (λ still. inl still) (λ one. inr (same_wanted c.args.self.now c.start.new.self t t e.slots e.log refl refl one)) (c.finish-answer.ensures.want is)
+pub returns-in-Ok-clause-firm : goal.returns-in-Ok-clause-firm
+returns-in-Ok-clause-firm g c = λ d adds few.
+    let is = sym (c.in_ok-start.ensures.started d) in
+    let firm = c.in-Ok.ensures.firm d
+    (subst (λ (q : StoreState). IsUnasked q) is (given_unasked (state_with c.args.self.now.plan d) c.args.entries (c.requires.unasked c.in_ok-start.ensures.closes.0 d)))
+    (subst (λ (q : StoreState). GroupAdds q) is adds)
+    (subst (λ (n : ℕ). n ≤ greatest) (ap (λ (q : StoreState). q.firm) is) few) in
+    firm ∙ ap (λ (q : StoreState). min ((q.firm + length q.adding) + length (group_of g.E.Stops.stops q.waiting)) greatest) (c.in_ok-start.ensures.started d)

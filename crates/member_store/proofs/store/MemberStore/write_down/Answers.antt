@@ -1,8 +1,28 @@
-use Rattle.std.proofs.Common.{◌∙◌, sym}
+use Rattle.std.proofs.Common.{◌≡◌, true, map, List, ℕ, ◌∙◌, sym, ap}
+use Rattle.disk_model.specs.Memory.{plain_cells}
+use Rattle.vote_book.specs.Entries.{entry_text}
+use Rattle.store_laws.specs.States.{StoreState, given}
+use Rattle.durable_store.specs.Stores.{state_of}
+use Rattle.member_store.specs.Members.{MemberState}
+use Rattle.member_store.specs.Devices.{state_in}
+use Rattle.member_store.proofs.Called.{given_over}
+use Rattle.member_store.proofs.store.MemberStore.write_down.Goals.{in-Ok, in-Err}
 use Rattle.member_store.proofs.store.MemberStore.write_down.Goals as goal
+
+abbrev running : StoreState → MemberState
+running s = record { runs = true; state = s }
 
 -- what waits changes nothing of what runs
 pub invariant_of-self-2 : goal.invariant_of-self-2
-invariant_of-self-2 c = λ is.
-    let was = rw c.in-Running.is at c.self.invariant (sym c.start.ensures.state ∙ is) in
-    record { added = was.added; kept = was.kept; others = was.others; stands = c.start.ensures.stands was.added was.kept was.others was.stands }
+invariant_of-self-2 c = λ is. c.start.ensures.stands (rw c.in-Running.is at c.self.invariant (sym c.start.ensures.state ∙ is))
+
+pub returns-clause-runs : goal.returns-clause-runs
+returns-clause-runs c = elim c.match-start.branch [
+  | in-Ok w ↦ rw w.result-is (λ runs.
+      let view : running (state_of plain_cells c.in-Running.store) ≡ c.args.self.now = ap (λ d. state_in d) (sym c.in-Running.is) ∙ c.self.view_is in
+      ap (λ s. running s)
+      (given_over c.in_ok-texts.texts c.in-Running.store c.start.new.self w.in-Ok.ensures.started w.in-Ok.ensures.disks
+      ∙ (ap (λ (ts : List (List ℕ)). given ts (state_of plain_cells c.in-Running.store)) c.in_ok-texts.ensures.are
+      ∙ ap (λ (v : MemberState). given (map entry_text c.args.entries.now) v.state) view)))
+  | in-Err w ↦ rw w.result-is tt
+]

@@ -1,5 +1,0 @@
-pub mod Disks
-pub mod Stores
-pub mod Runs
-pub mod Opens
-pub mod BookRuns

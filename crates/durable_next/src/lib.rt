@@ -1,8 +1,0 @@
-//! A store over two generations: a newest checkpoint, and the entries of its log since. A crash at any
-//! moment leaves what was firm, with or without what was being written.
-#![tactic(auto)]
-
-pub mod disks;
-pub mod laws;
-pub mod reopening;
-pub mod store;
