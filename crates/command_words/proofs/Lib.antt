@@ -1,0 +1,3 @@
+mod Parsing
+mod Refusals
+mod Rows

@@ -1,0 +1,140 @@
+//! The commands of the program `smart`, and the reading of the words that name them.
+ghost use Rattle.std.specs.Prelude.{◌≡◌, IfOk, IfErr, Some, map, string_bytes};
+ghost use Rattle.clap.specs.Words.{FailsBy, app_of, fault_of, kind_of, subcommand_of, subcommand_rows_of, with_subcommand};
+ghost use Rattle.command_words.specs.Commands.{Answers, Refuses, bare_program, command_in, command_of, is_shown, program, world_shape};
+
+use clap::error::ErrorKind;
+use clap::{ArgMatches, Command as Parser, Error};
+use std::alloc::{AllocError, Global};
+use std::fmt::Write;
+
+/// A command of the program.
+#[derive(Clone, Copy, Debug, PartialEq, Eq)]
+pub enum Command {
+    /// `world`: plays the script of the input.
+    World,
+}
+
+/// The reason for which words are no command.
+#[derive(Drop)]
+pub enum NoCommand {
+    /// They ask for help or for the version, or there are none. The text is the parser's answer.
+    Shown(String),
+    /// A word is wrong.
+    Wrong,
+    /// Memory ran out.
+    NoMemory,
+}
+
+/// The parser of the program's words before its subcommands.
+fn bare_parser<'a>(alloc: Global) -> Parser<'a>
+    ensures { app_of result ≡ bare_program }
+{
+    Parser::new(alloc, "smart")
+        .about("Byzantine fault tolerant replication, step by step")
+        .version("0.1")
+        .after_help("Examples:\n  smart world < examples/first.smart")
+        .no_binary_name(true)
+        .propagate_version(true)
+        .arg_required_else_help(true)
+        .subcommand_required(true)
+}
+
+/// The same, which names the program where it shows how a subcommand is used. Error: want of memory.
+fn named_parser<'a>(alloc: Global) -> Result<Parser<'a>, AllocError>
+    ensures { IfOk result (λ parser. app_of parser ≡ bare_program) }
+{
+    bare_parser(alloc).bin_name("smart")
+}
+
+/// Adds the subcommand `world`. Error: want of memory.
+fn with_world<'a>(alloc: Global, parser: Parser<'a>) -> Result<Parser<'a>, AllocError>
+    ensures { IfOk result (λ more. app_of more ≡ with_subcommand (app_of parser.entry) world_shape) }
+{
+    let world = Parser::new(alloc, "world")
+        .about("Play a script from standard input and write its transcript")
+        .after_help("Example:\n  smart world < examples/first.smart");
+    parser.subcommand(world)
+}
+
+/// The parser of the program's words. Error: want of memory.
+fn program_parser<'a>(alloc: Global) -> Result<Parser<'a>, AllocError>
+    ensures { IfOk result (λ parser. app_of parser ≡ program) }
+{
+    let parser = named_parser(alloc)?;
+    with_world(alloc, parser)
+}
+
+/// The command that the parser has met.
+fn command_met(matches: &ArgMatches<'_>) -> Option<Command>
+    ensures { result ≡ command_in (subcommand_rows_of matches.now) }
+{
+    match matches.subcommand() {
+        Some(("world", _)) => Some(Command::World),
+        _ => None,
+    }
+}
+
+/// Whether the parser answers with text for the user, and not with a wrong word.
+fn is_shown(kind: ErrorKind) -> bool
+    ensures { result ≡ is_shown kind }
+{
+    matches!(
+        kind,
+        ErrorKind::DisplayHelp
+            | ErrorKind::DisplayHelpOnMissingArgumentOrSubcommand
+            | ErrorKind::DisplayVersion
+    )
+}
+
+/// What the parser makes of the words behind the program's name.
+fn parse<'a>(alloc: Global, words: &'a [String]) -> Result<ArgMatches<'a>, Error>
+    ensures met { IfOk result (λ matches. subcommand_rows_of matches ≡ subcommand_of program (map string_bytes words.now)) }
+    ensures faults { FailsBy (fault_of program (map string_bytes words.now)) result }
+{
+    let parser = program_parser(alloc)?;
+    parser.try_get_matches_from(words)
+}
+
+/// The text that the parser shows; behind a version stands the help. Error: want of memory.
+fn shown_text(alloc: Global, error: &Error) -> Result<String, AllocError> {
+    let mut text = String::new(alloc);
+    write!(&mut text, "{error}")?;
+    if error.kind() == ErrorKind::DisplayVersion {
+        let help = program_parser(alloc)?.render_help()?;
+        write!(&mut text, "\n{help}")?;
+    }
+    Ok(text)
+}
+
+/// What words are to which the parser answers with an error.
+fn refusal(alloc: Global, error: &Error) -> NoCommand
+    ensures { Answers (kind_of error.now) result }
+{
+    let kind = error.kind();
+    if kind == ErrorKind::OutOfMemory {
+        return NoCommand::NoMemory;
+    }
+    if !is_shown(kind) {
+        return NoCommand::Wrong;
+    }
+    match shown_text(alloc, error) {
+        Ok(text) => NoCommand::Shown(text),
+        Err(_) => NoCommand::NoMemory,
+    }
+}
+
+/// Reads the words behind the program's name.
+pub fn read_words(alloc: Global, words: &[String]) -> Result<Command, NoCommand>
+    // They are a command exactly by the parser's meaning, and everything else is none.
+    ensures command { IfOk result (λ command. command_of (map string_bytes words.now) ≡ Some command) }
+    ensures none { IfErr result (Refuses (map string_bytes words.now)) }
+{
+    match parse(alloc, words) {
+        Ok(matches) => match command_met(&matches) {
+            Some(command) => Ok(command),
+            None => Err(NoCommand::Wrong),
+        },
+        Err(error) => Err(refusal(alloc, &error)),
+    }
+}

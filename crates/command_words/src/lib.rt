@@ -1,0 +1,5 @@
+//! The words of a command line, read by the parser of clap.
+#![tactic(auto)]
+
+pub mod command;
+pub mod laws;
