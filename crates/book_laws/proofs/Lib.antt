@@ -1,5 +1,5 @@
 mod Lists
-mod Promises
+pub mod Promises
 mod Kept
 mod Places
 mod Cut

@@ -82,11 +82,11 @@ of_three a b c true false e f = refl
 of_three a b c false true e f = rw (e, f) refl
 of_three a b c false false e f = rw (f, unkept_through a.view a.regency b.view b.regency c.view c.regency e f) refl
 
-greater_none : (o : Option Promise) → greater_promise o None ≡ o
+pub greater_none : (o : Option Promise) → greater_promise o None ≡ o
 greater_none None = refl
 greater_none (Some a) = refl
 
-greater_assoc : (a b c : Option Promise) → greater_promise (greater_promise a b) c ≡ greater_promise a (greater_promise b c)
+pub greater_assoc : (a b c : Option Promise) → greater_promise (greater_promise a b) c ≡ greater_promise a (greater_promise b c)
 greater_assoc None b c = refl
 greater_assoc (Some a) None c = refl
 greater_assoc (Some a) (Some b) None = greater_none (greater_promise (Some a) (Some b))
