@@ -12,3 +12,4 @@ pub mod Streams
 pub mod Sounds
 pub mod Ran
 pub mod Waits
+pub mod Switched

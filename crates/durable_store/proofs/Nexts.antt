@@ -1,14 +1,14 @@
 -- The next call of a store, from the plan that is ready for it.
-use Rattle.std.proofs.Common.{◌≡◌, inl, inr, ⊎_elim, ℕ, Bool, true, false, cond, List, [], ◌∷◌, Option, Some, None, Bor, refl, sym, ◌∙◌, ap, subst, arith}
-use Rattle.std.specs.List.{slice_get}
-use Rattle.std.specs.Option.{option_copied}
+use Rattle.std.proofs.Common.{◌≡◌, inl, inr, ⊎_elim, ℕ, Bool, true, false, not, cond, List, [], ◌∷◌, Result, Ok, Err, IfOk, OnOk, OnErr, refl, sym, ◌∙◌, ap, subst, arith}
 use Rattle.disk_model.specs.Cells.{Cells}
 use Rattle.disk_model.specs.DeviceCalls.{made, during, CanBeMade}
 use Rattle.disk_model.specs.declared.call.DeviceCall.{DeviceCall}
 use Rattle.store_form.specs.Spelling.{IsGroup, payload}
 use Rattle.store_laws.specs.Restored.{Images}
 use Rattle.store_laws.specs.States.{Devices, StoreState, change, cells_on, some, writes_tail, Begun, NoJob, Close, Repair, Switch, AddGroup, due_job, begins, begun, ended, job_called, store_called, devices_during, MayLeave}
-use Rattle.store_laws.specs.Runs.{CallLeaves}
+use Rattle.store_form.specs.declared.ends.LogFault.{LogFault}
+use Rattle.store_form.specs.declared.ends.State.TheVariants.{Open}
+use Rattle.store_laws.specs.Runs.{CallFits, CallLeaves}
 use Rattle.store_laws.specs.Lives.{Either}
 use Rattle.store_laws.specs.Stands.{AnyRests, StandsBy, Runs, HasSpelling, aim_called, aim_after}
 use Rattle.store_laws.specs.declared.job.Device.{Device}
@@ -20,34 +20,16 @@ use Rattle.store_laws.proofs.AnyGoes.{any_begins}
 use Rattle.store_plan.specs.declared.plan.Plan.{Plan}
 use Rattle.store_plan.specs.Plans.{state_with, leaves_calls, with_tail, readied}
 use Rattle.store_plan.proofs.Due.{nowhere}
-use Rattle.store_plan.proofs.Ready.{readied_called, readied_during, readied_stands, first_can}
+use Rattle.store_plan.proofs.Ready.{readied_first, readied_called, readied_during, readied_stands, first_can}
 use Rattle.disk_model.specs.Cells.{IsImage, Within}
 use Rattle.disk_model.specs.Calls.{Elapses}
 use Rattle.durable_store.specs.Disks.{disk_at, OthersSame, OthersBy, cells_of, LeftSince}
-use Rattle.durable_store.specs.Stores.{Stands}
+use Rattle.durable_store.specs.Stores.{state_of, Stands}
+use Rattle.durable_store.specs.Calls.{FirstCan, FirstCalled}
 use Rattle.durable_store.specs.Runs.{no_tail}
 use Rattle.durable_store.specs.declared.disks.Disks.{Disks}
-use Rattle.durable_store.proofs.Four.{at_device, four_made, four_torn, four_moments}
-
--- ---- the first of a list, as code sees it
-
-cons_of : {A : Type 0} (xs : List A) (x : A) → slice_get xs 0 ≡ Some x → (left : List A) × (xs ≡ x ∷ left)
-cons_of [] x is = absurd cc
-cons_of (y ∷ ys) x is =
-    let same : y ≡ x = cc in
-    (ys, ap (λ z. z ∷ ys) same)
-
-none_of : {A : Type 0} (xs : List A) → slice_get xs 0 ≡ None → xs ≡ []
-none_of [] is = refl
-none_of (y ∷ ys) is = absurd cc
-
-pub first_call : {A : Type 0} (xs ys : List A) (o : Option (Bor A)) (b : Bor A) (x : A) → xs ≡ ys → option_copied o ≡ slice_get xs 0 → o ≡ Some b → b.now ≡ x → (left : List A) × (ys ≡ x ∷ left)
-first_call xs ys o b x same value is now =
-    let has = cons_of xs x (sym value ∙ ap option_copied is ∙ ap (λ z. Some z) now) in
-    (has.0, sym same ∙ has.1)
-
-pub no_first_call : {A : Type 0} (xs ys : List A) (o : Option (Bor A)) → xs ≡ ys → option_copied o ≡ slice_get xs 0 → o ≡ None → ys ≡ []
-no_first_call xs ys o same value is = sym same ∙ none_of xs (sym value ∙ ap option_copied is)
+use Rattle.durable_store.specs.declared.store.Store.{Store}
+use Rattle.durable_store.proofs.Four.{at_device, same_others, four_made, four_torn, four_still_moments, four_moments}
 
 pub no_tail_fits : IsGroup []
 unfolding payload
@@ -218,3 +200,102 @@ ready_held stops tail old now ready = (
   ap (λ (q : StoreState). q.firm) (ready nowhere) ∙ tail_firm tail (begun stops (state_with old nowhere)).running (begun stops (state_with old nowhere)) ∙ begun_firm stops (state_with old nowhere),
   ap (λ (q : StoreState). q.generation) (ready nowhere) ∙ tail_generation tail (begun stops (state_with old nowhere)).running (begun stops (state_with old nowhere)) ∙ begun_generation stops (state_with old nowhere),
 )
+
+-- ---- the call that was made, or none
+
+on_ok : {T E : Type 0} (r : Result T E) (X : Type 0) → X → OnOk r X
+on_ok (Ok x) X is = is
+on_ok (Err e) X is = tt
+
+on_both : {T E : Type 0} (r : Result T E) (X Y Z : Type 0) → (X → Y → Z) → OnOk r X → OnOk r Y → OnOk r Z
+on_both (Ok x) X Y Z f is also = f is also
+on_both (Err e) X Y Z f is also = tt
+
+on_error : {T E : Type 0} (r : Result T E) (X Y : Type 0) → (X → Y) → OnErr r X → OnErr r Y
+on_error (Ok x) X Y f is = tt
+on_error (Err e) X Y f is = f is
+
+-- what holds after a call that went well holds of a store that is open, since a fault closes it
+where_open : {T E : Type 0} (r : Result T E) (X Y Z W : Type 0) → (X → Y → Z) → OnOk r X → OnOk r Y → OnErr r (W → ⊥) → W → Z
+where_open (Ok x) X Y Z W f is also shut is_open = f is also
+where_open (Err e) X Y Z W f is also shut is_open = absurd (shut is_open)
+
+module _ {D : Type 0} (told : Type 0) (cells : D → Cells) (moment : D → ℕ) (left_since : D → ℕ → List ℕ → Type 0) (stops : List ℕ → Bool) (tail : Tail) (old : Plan) (ready : Store D)
+    (is_ready : (d : Devices) → state_with ready.plan d ≡ readied stops tail (state_with old d)) where
+  pub first_there : writes_tail ready.plan.running ≡ false
+  first_there = ap (λ (q : StoreState). writes_tail q.running) (is_ready nowhere) ∙ readied_first stops tail (state_with old nowhere)
+
+  module _ (fits : (d : Devices) → CallFits stops tail (state_with old d)) where
+    pub first_goes : Stands (state_with old (cells_of cells ready.disks)) → FirstCan ready.plan.running (cells_of cells ready.disks)
+    first_goes stands = by ready.plan.running refl
+      where
+        by : (calls : List StoreCall) → ready.plan.running ≡ calls → FirstCan calls (cells_of cells ready.disks)
+        by [] is = tt
+        by (On device call ∷ left) is = next_can stops tail old ready.plan is_ready device call left is (cells_of cells ready.disks) (fits (cells_of cells ready.disks)).0 (fits (cells_of cells ready.disks)).1 stands
+        by (WriteTail ∷ left) is = tt
+
+    module _ (new : Store D) (result : Result Bool LogFault) where
+      pub went_called : FirstCalled told cells moment left_since ready new result
+          → OnOk result ((d : Devices) → state_with new.plan (store_called stops tail (state_with old d)).devices ≡ store_called stops tail (state_with old d))
+      went_called (inl w) =
+          on_ok result ((d : Devices) → state_with new.plan (store_called stops tail (state_with old d)).devices ≡ store_called stops tail (state_with old d))
+          (subst (λ (q : Store D). (d : Devices) → state_with q.plan (store_called stops tail (state_with old d)).devices ≡ store_called stops tail (state_with old d)) (sym w.same) (plan_still stops tail old ready.plan is_ready w.idle))
+      went_called (inr w) =
+          on_both result ((d : Devices) (c : StoreCall) (l : List StoreCall) → ready.plan.running ≡ c ∷ l → state_with new.plan d ≡ ended l (leaves_calls l (state_with ready.plan d)))
+          ((d : Devices) (c : StoreCall) (l : List StoreCall) → ready.plan.running ≡ c ∷ l → state_with new.plan d ≡ ended l (leaves_calls l (state_with ready.plan d)))
+          ((d : Devices) → state_with new.plan (store_called stops tail (state_with old d)).devices ≡ store_called stops tail (state_with old d))
+          (λ next also. plan_called stops tail old ready.plan is_ready cells ready.disks new.disks w.device w.call w.left w.first w.others new.plan next) w.next w.next
+
+      pub went_made : FirstCalled told cells moment left_since ready new result
+          → OnOk result (told → cells_of cells new.disks ≡ (store_called stops tail (state_with old (cells_of cells ready.disks))).devices)
+      went_made (inl w) =
+          on_ok result (told → cells_of cells new.disks ≡ (store_called stops tail (state_with old (cells_of cells ready.disks))).devices)
+          (λ t. subst (λ (q : Store D). cells_of cells q.disks ≡ (store_called stops tail (state_with old (cells_of cells ready.disks))).devices) (sym w.same) (disk_still stops tail old ready.plan is_ready cells ready.disks w.idle))
+      went_made (inr w) =
+          on_both result ((d : Devices) (c : StoreCall) (l : List StoreCall) → ready.plan.running ≡ c ∷ l → state_with new.plan d ≡ ended l (leaves_calls l (state_with ready.plan d)))
+          (told → cells (disk_at w.device new.disks) ≡ made w.call (cells (disk_at w.device ready.disks)))
+          (told → cells_of cells new.disks ≡ (store_called stops tail (state_with old (cells_of cells ready.disks))).devices)
+          (λ next is t. disk_made stops tail old ready.plan is_ready cells ready.disks new.disks w.device w.call w.left w.first w.others new.plan next (is t)) w.next w.made
+
+      pub went_done : FirstCalled told cells moment left_since ready new result → IfOk result (λ done. done ≡ not (some new.plan.running))
+      went_done (inl w) =
+          subst (λ (r : Result Bool LogFault). IfOk r (λ done. done ≡ not (some new.plan.running))) (sym w.done)
+          (sym (ap (λ (q : Store D). not (some q.plan.running)) w.same ∙ ap (λ (calls : List StoreCall). not (some calls)) w.idle))
+      went_done (inr w) = w.done
+
+      pub went_one : FirstCalled told cells moment left_since ready new result → (d : Devices) → OthersBy (begun stops (state_with old d)) (begun stops (state_with old d)).running ready.disks new.disks
+      went_one (inl w) d =
+          subst (λ (q : Store D). OthersBy (begun stops (state_with old d)) (begun stops (state_with old d)).running ready.disks q.disks) (sym w.same) (same_others (begun stops (state_with old d)) (begun stops (state_with old d)).running ready.disks)
+      went_one (inr w) d = next_others stops tail old ready.plan is_ready w.device w.call w.left w.first ready.disks new.disks w.others d
+
+      pub went_unchanged : (X : Type 0) → FirstCalled told cells moment left_since ready new result → OnErr result (new.state ≡ Open → X)
+      went_unchanged X (inl w) = subst (λ (r : Result Bool LogFault). OnErr r (new.state ≡ Open → X)) (sym w.done) tt
+      went_unchanged X (inr w) = on_error result (new.state ≡ Open → ⊥) (new.state ≡ Open → X) (λ shut is_open. absurd (shut is_open)) w.shut
+
+      pub went_held : FirstCalled told cells moment left_since ready new result → OnErr result ((new.plan.firm ≡ old.firm) × (new.plan.generation ≡ old.generation))
+      went_held (inl w) = subst (λ (r : Result Bool LogFault). OnErr r ((new.plan.firm ≡ old.firm) × (new.plan.generation ≡ old.generation))) (sym w.done) tt
+      went_held (inr w) =
+          on_error result (new.plan ≡ ready.plan) ((new.plan.firm ≡ old.firm) × (new.plan.generation ≡ old.generation))
+          (λ same. subst (λ (p : Plan). (p.firm ≡ old.firm) × (p.generation ≡ old.generation)) (sym same) (ready_held stops tail old ready.plan is_ready)) w.same
+
+      pub went_crash : FirstCalled told cells moment left_since ready new result → told → (images : Images) → MayLeave (cells_of cells new.disks) images → CallLeaves stops tail (state_with old (cells_of cells ready.disks)) images
+      went_crash (inl w) t images m = inl (subst (λ (q : Store D). MayLeave (cells_of cells q.disks) images) w.same m)
+      went_crash (inr w) t images m =
+          disk_crash stops tail old ready.plan is_ready cells ready.disks new.disks w.device w.call w.left w.first w.others (fits (cells_of cells ready.disks)).0 (fits (cells_of cells ready.disks)).1 (w.torn t) images m
+
+      pub went_moments : ((disk : D) (c : List ℕ) → left_since disk (moment disk) c → IsImage (cells disk) c) → FirstCalled told cells moment left_since ready new result → told → (images : Images) → LeftSince moment left_since ready.disks new.disks images
+          → CallLeaves stops tail (state_with old (cells_of cells ready.disks)) images
+      went_moments only (inl w) t images l =
+          inl (four_still_moments moment left_since cells only ready.disks images (subst (λ (q : Store D). LeftSince moment left_since ready.disks q.disks images) w.same l))
+      went_moments only (inr w) t images l =
+          disk_moments stops tail old ready.plan is_ready cells ready.disks new.disks w.device w.call w.left w.first w.others (fits (cells_of cells ready.disks)).0 (fits (cells_of cells ready.disks)).1 moment left_since only w.time (w.torn t) images l
+
+      pub went_stands : (told → Stands (state_with old (cells_of cells ready.disks))) → FirstCalled told cells moment left_since ready new result → new.state ≡ Open → told → Stands (state_of cells new)
+      went_stands stood (inl w) is_open t =
+          subst (λ (q : Store D). Stands (state_of cells q)) (sym w.same)
+          (still_stands stops tail old ready.plan is_ready (cells_of cells ready.disks) (fits (cells_of cells ready.disks)).0 (fits (cells_of cells ready.disks)).1 (stood t))
+      went_stands stood (inr w) is_open t =
+          where_open result ((d : Devices) (c : StoreCall) (l : List StoreCall) → ready.plan.running ≡ c ∷ l → state_with new.plan d ≡ ended l (leaves_calls l (state_with ready.plan d)))
+          (told → cells (disk_at w.device new.disks) ≡ made w.call (cells (disk_at w.device ready.disks))) (Stands (state_of cells new)) (new.state ≡ Open)
+          (λ next is. disk_stands stops tail old ready.plan is_ready cells ready.disks new.disks w.device w.call w.left w.first w.others new.plan next (is t) (fits (cells_of cells ready.disks)).0 (fits (cells_of cells ready.disks)).1 (stood t))
+          w.next w.made w.shut is_open

@@ -13,7 +13,7 @@ use Rattle.store_laws.specs.Runs.{called_times, CallFits, RunFits, CallLeaves, R
 use Rattle.store_laws.specs.Lives.{StoreWire, StoreNext, Either}
 use Rattle.store_laws.specs.Stands.{Aim, at_rest, Leaves, StandsBy, AnyRests, OwnRests, StoreStands, IsOwn, instead, HasSpelling, aim_left, aim_begins, aim_called}
 use Rattle.store_laws.specs.Books.{GrownBy, Grown, BooksBy, Books, IsFront}
-use Rattle.store_laws.specs.Counts.{CountsBy, Counts, gone_by}
+use Rattle.store_laws.specs.Counts.{BeginsWith, CountsBy, Counts, gone_by}
 use Rattle.store_laws.specs.declared.job.Device.{Device}
 use Rattle.store_laws.specs.declared.job.Device.TheVariants.{Log, Slot}
 use Rattle.store_laws.specs.declared.job.Ending.{Ending}
@@ -30,7 +30,7 @@ use Rattle.store_laws.proofs.Aims.{firm_rises}
 use Rattle.store_laws.proofs.Counted.{counts_opened, counts_begins, counts_goes, counts_given, counts_crash}
 use Rattle.store_laws.proofs.Booked.{books_opened, books_begins, books_goes, books_given}
 use Rattle.store_plan.proofs.Ready.{no_calls}
-use Rattle.durable_store.specs.BookRuns.{AreSound, IsFrontOr, HoldsBook, BookNext, firm_then}
+use Rattle.durable_store.specs.BookRuns.{AreSound, IsFrontOr, HoldsBook, BookNext, HasFirm, firm_then}
 use Rattle.durable_store.specs.Runs.{no_tail}
 use Rattle.durable_store.proofs.Nexts.{no_tail_fits, begins_firm, begun_firm}
 use Rattle.durable_store.proofs.Sounds.{settled_sound, change_sound, settled_leaves}
@@ -81,7 +81,7 @@ begins_devices Repair s = refl
 begins_devices (Switch snapshot) s = refl
 begins_devices (AddGroup group) s = refl
 
-ends_devices : (ending : Ending) (s : StoreState) → (ends ending s).devices ≡ s.devices
+pub ends_devices : (ending : Ending) (s : StoreState) → (ends ending s).devices ≡ s.devices
 ends_devices (Closes odd) s = refl
 ends_devices Repairs s = refl
 ends_devices (Adds end) s = refl
@@ -334,15 +334,28 @@ module _ (stops : List ℕ → Bool) (tail : Tail) (book : List (List ℕ)) (pre
   -- ---- what counts as firm is restored, or the present generation is not
 
   abbrev pub Counted : ℕ → Images → Type 0
-  Counted firm images = (generation_of present < generation_of (restores images).present) ⊎ (firm ≤ gone + length (restores images).entries)
+  Counted firm images = (generation_of present < generation_of (restores images).present) ⊎ HasFirm book present gone firm (restores images)
 
   counted_now : (s : StoreState) (a : Aim) → Holds s a → (images : Images) → MayLeave s.devices images → Counted s.firm images
-  counted_now s a h images may =
-      subst (λ (p : Option Checkpoint). (generation_of p < generation_of (restores images).present) ⊎ (s.firm ≤ gone + length (restores images).entries)) h.books.present_is (counts_crash gone s a h.counts h.own images may)
+  counted_now s a h images may = by (counts_crash gone s a h.counts h.own images may)
+    where
+      by : (generation_of a.kept.present < generation_of (restores images).present) ⊎ BeginsWith a.kept gone s.firm (restores images) → Counted s.firm images
+      by (inl later) = inl (subst (λ (p : Option Checkpoint). generation_of p < generation_of (restores images).present) h.books.present_is later)
+      by (inr b) =
+          inr (record {
+            front = a.kept.entries;
+            more = b.more;
+            rest = s.adding ++ s.waiting;
+            is = b.is ∙ ap (λ (p : Option Checkpoint). record { present = p; entries = a.kept.entries ++ b.more }) h.books.present_is;
+            book_is = h.books.all;
+            most = b.most;
+          })
 
   fewer : (firm more : ℕ) (images : Images) → firm ≤ more → Counted more images → Counted firm images
   fewer firm more images le (inl later) = inl later
-  fewer firm more images le (inr few) = inr (omega (arith, le, few))
+  fewer firm more images le (inr has) =
+      let most = has.most in
+      inr (record { front = has.front; more = has.more; rest = has.rest; is = has.is; book_is = has.book_is; most = omega (arith, le, most) })
 
   counted_then : (device : Device) (call : DeviceCall) (left : List StoreCall) (s : StoreState) (a : Aim) → s.running ≡ On device call ∷ left → Holds s a → (images : Images) → MayLeave (change (made call) device s.devices) images
       → Counted (job_called tail (On device call ∷ left) s).firm images

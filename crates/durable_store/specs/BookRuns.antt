@@ -1,5 +1,5 @@
 -- A store that is not asked to switch, over a run of calls: what it stands for, and what a crash leaves.
-use Rattle.std.specs.Prelude.{◌≡◌, ◌⊎◌, ◌+◌, ℕ, min, Bool, List, length, Option}
+use Rattle.std.specs.Prelude.{◌≡◌, ◌≤◌, ◌⊎◌, ◌+◌, ℕ, min, Bool, List, ◌++◌, length, Option}
 use Rattle.disk_model.specs.Cells.{IsSound}
 use Rattle.store_form.specs.declared.checkpoint.Checkpoint.{Checkpoint}
 use Rattle.store_laws.specs.Restored.{Images}
@@ -36,6 +36,16 @@ pub record BookNext (book : List (List ℕ)) (present : Option Checkpoint) (stak
   pub next : StoreNext images kept other
   pub kept_is : IsFront book present kept
   pub other_is : IsFrontOr book present stake other
+
+-- This has the present checkpoint, and begins with a front of the book. The front has at least as many entries as are firm, but for those that
+-- are gone.
+pub record HasFirm (book : List (List ℕ)) (present : Option Checkpoint) (gone firm : ℕ) (x : Kept) : Type 0 where
+  pub front : List (List ℕ)
+  pub more : List (List ℕ)
+  pub rest : List (List ℕ)
+  pub is : x ≡ record { present = present; entries = front ++ more }
+  pub book_is : front ++ rest ≡ book
+  pub most : firm ≤ gone + length front
 
 -- the number of firm entries once all that a store was given are firm
 abbrev pub firm_then : StoreState → ℕ

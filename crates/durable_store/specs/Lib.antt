@@ -4,3 +4,4 @@ pub mod Runs
 pub mod Opens
 pub mod BookRuns
 pub mod Streams
+pub mod Calls

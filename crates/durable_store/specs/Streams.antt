@@ -2,7 +2,7 @@
 use Rattle.std.specs.Prelude.{◌≡◌, ℕ, List, [], ◌∷◌, drop, true, false}
 use Rattle.disk_model.specs.Cells.{Cells}
 use Rattle.log_stream.specs.Stream.{Reads}
-use Rattle.store_laws.specs.Restored.{Images, log_image, side_of, present_in, restores, slot_gate}
+use Rattle.store_laws.specs.Restored.{log_image, side_of, present_in, restores, slot_gate}
 use Rattle.durable_store.specs.Disks.{contents, AreSettled}
 use Rattle.durable_store.specs.declared.opening.Opening.{Opening}
 

@@ -25,6 +25,10 @@ pub trait CoreCell {
     /// The snapshot that was handed last, and was not taken since.
     ghost hands: { Self → Option (ℕ × List ℕ) };
 
+    /// The tails that belong to a place: those with which a log may begin after a switch to the snapshot
+    /// of this place.
+    ghost is_tail: { ℕ → Tail → Type 0 };
+
     /// The tail with which the log of a generation begins, by the place of its snapshot.
     ghost tails: { Self → ℕ → Tail };
 
@@ -55,6 +59,7 @@ pub trait CoreCell {
     /// memory.
     fn tail(&mut self, alloc: Global, place: u64) -> Result<Tail, AllocError>
         ensures tail { IfOk result (λ tail. alone → tail ≡ tails self.old place) }
+        ensures of_place { IfOk result (λ tail. is_tail place tail) }
         ensures fits { IfOk result (λ tail. AreEntries tail.entries) }
         ensures same { alone → (wants self.new ≡ wants self.old) × ((hands self.new ≡ hands self.old) × (tails self.new ≡ tails self.old)) };
 

@@ -1,8 +1,12 @@
 //! A store over its four devices.
-ghost use Rattle.std.specs.Prelude.{◌≡◌};
-ghost use Rattle.store_laws.specs.States.{Devices};
-ghost use Rattle.store_plan.specs.Plans.{state_with};
+ghost use Rattle.std.specs.Prelude.{◌≡◌, ◌⊎◌, false, true, OnOk, OnErr, IsErrOf};
+ghost use Rattle.store_form.specs.Ends.{Closes};
+ghost use Rattle.store_laws.specs.States.{Devices, some, writes_tail};
+ghost use Rattle.store_laws.specs.Runs.{CallFits};
+ghost use Rattle.store_plan.specs.Fit.{AreEntries};
+ghost use Rattle.store_plan.specs.Plans.{state_with, readied};
 ghost use Rattle.durable_store.specs.Runs.{unasks};
+ghost use Rattle.durable_store.specs.Calls.{fault_told, closed_by};
 
 use crate::disks::Disks;
 use disk_model::disk::Disk;
@@ -49,6 +53,7 @@ impl<D: Disk> Store<D> {
     ghost use Rattle.durable_store.specs.Disks.{OthersBy, cells_of, TimeWent, NoneFell, DiskRose, LeftSince};
     ghost use Rattle.durable_store.specs.Stores.{state_of, Stands, JobFits, started};
     ghost use Rattle.durable_store.specs.Runs.{Ran, IsNoSwitch, IsUnasked, SwitchIsOnOrDone, EndsWithSwitch, no_tail, taken_by, asked_by};
+    ghost use Rattle.durable_store.specs.Calls.{FirstCan, FirstCalled};
 
     /// Makes entries firm, after every call that is due before: in one group with all that wait, up to
     /// the first that ends a group. That one and those behind it wait for a switch. Errors: a failure
@@ -98,10 +103,16 @@ impl<D: Disk> Store<D> {
 
     /// Switches to the next generation, after every call that is due before: its slot gets the snapshot,
     /// and its log begins with the tail. After `Ok` it is the present one, and no call was made after
-    /// those of the switch. Entries that wait, and are not in the tail, still wait. A switch that waited
-    /// is forgotten. Errors: a failure of a device; want of memory. The generation is then as it was. If
-    /// memory is wanted and the store stays open, no switch waits. Either no job runs, or the switch
-    /// does: `wants_tail` holds, and the next calls go on with it.
+    /// those of the switch. A switch that waited is forgotten.
+    ///
+    /// Entries are numbered from 1: those that were restored, then those that were given since. The
+    /// caller owes that `made`, added to the count of those restored, is the number of the tail's last
+    /// entry. It is 0 if that entry was restored, or there is none. Then the entries behind the tail's
+    /// last still wait. The store takes the entries up to this number for firm, whatever the tail holds.
+    ///
+    /// Errors: a failure of a device; want of memory. The generation is then as it was. If memory is
+    /// wanted and the store stays open, no switch waits. Either no job runs, or the switch does:
+    /// `wants_tail` holds, and the next calls go on with it.
     pub fn switch<E: Stops>(
         &mut self,
         alloc: Global,
@@ -256,22 +267,32 @@ impl<D: Disk> Store<D> {
         ensures untouched { (self.old.state ≡ State.Open → ⊥) → self.new ≡ self.old }
         ensures closes { Closes result self.old.state self.new.state }
     {
-        self.state.check()?;
-        self.plan.ready::<E>(alloc, tail)?;
+        make_ready::<E>(alloc, self.state, &mut self.plan, tail)?;
+        self.make_first(alloc)
+    }
+
+    /// Makes the first call of the running job, which writes no tail any more, and tells whether no job
+    /// runs after it. If none runs, nothing is done. Errors: a failure of a device; want of memory.
+    /// Each closes the store.
+    fn make_first(&mut self, alloc: Global) -> Result<bool, StoreFault>
+        requires open { self.old.state ≡ State.Open }
+        requires there { writes_tail self.old.plan.running ≡ false }
+        requires can { D.told → FirstCan self.old.plan.running (cells_of D.cells self.old.disks) }
+        ensures went { FirstCalled D.told D.cells D.moment D.left_since self.old self.new result }
+        ensures time { TimeWent D.moment D.left_since D.cells self.old.disks self.new.disks }
+        ensures later { NoneFell D.faults self.old.disks self.new.disks }
+        ensures wants_later { NoneFell D.wants self.old.disks self.new.disks }
+        ensures cause { IsErrOf result (LogFault.Disk false) → DiskRose D.faults self.old.disks self.new.disks }
+        ensures want { IsErrOf result LogFault.NoMemory → DiskRose D.wants self.old.disks self.new.disks }
+        ensures closes { Closes result self.old.state self.new.state }
+    {
         let plan = &self.plan;
         let Some(StoreCall::On(device, call)) = plan.running.as_slice().first() else {
             return Ok(true);
         };
         match self.disks.call(*device, call) {
             Ok(()) => Ok(self.plan.advance(alloc)),
-            Err(Fault::Failed) => {
-                self.state = State::Failed;
-                Err(LogFault::Disk { closed: false })
-            }
-            Err(Fault::NoMemory) => {
-                self.state = State::NoMemory;
-                Err(LogFault::NoMemory)
-            }
+            Err(fault) => Err(close(&mut self.state, fault)),
         }
     }
 
@@ -324,4 +345,43 @@ fn forget_switch(plan: &mut Plan)
     ensures { (d : Devices) → state_with plan.new d ≡ unasks (state_with plan.old d) }
 {
     plan.asked = None;
+}
+
+/// Makes the plan of an open store ready for its next call. Errors: want of memory; or the store is
+/// closed.
+fn make_ready<E: Stops>(
+    alloc: Global,
+    state: State,
+    plan: &mut Plan,
+    tail: &Tail,
+) -> Result<(), StoreFault>
+    requires tail { AreEntries tail.now.entries }
+    ensures open { OnOk result (state ≡ State.Open) }
+    ensures ready { OnOk result ((d : Devices) → state_with plan.new d ≡ readied E.stops tail.now (state_with plan.old d)) }
+    ensures fits { OnOk result ((d : Devices) → CallFits E.stops tail.now (state_with plan.old d)) }
+    ensures unchanged { OnErr result (plan.new ≡ plan.old) }
+    ensures begins { OnErr result (state ≡ State.Open → (some plan.old.running ≡ false) ⊎ (writes_tail plan.old.running ≡ true)) }
+    ensures cause { IsErrOf result (LogFault.Disk false) → ⊥ }
+    ensures closes { Closes result state state }
+{
+    state.check()?;
+    plan.ready::<E>(alloc, tail)?;
+    Ok(())
+}
+
+/// Closes a store for a fault of a device call, and tells the fault.
+fn close(state: &mut State, fault: Fault) -> StoreFault
+    ensures told { result ≡ fault_told fault }
+    ensures closed { state.new ≡ closed_by fault }
+{
+    match fault {
+        Fault::Failed => {
+            *state = State::Failed;
+            LogFault::Disk { closed: false }
+        }
+        Fault::NoMemory => {
+            *state = State::NoMemory;
+            LogFault::NoMemory
+        }
+    }
 }

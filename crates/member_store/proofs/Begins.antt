@@ -1,7 +1,7 @@
 -- First entries of a book.
 use Rattle.std.proofs.Common.{◌≡◌, ◌≤◌, ℕ, List, ◌++◌, length, take, sym, ap, ◌∙◌}
 use Rattle.std.proofs.lemmas.List.{take-take}
-use Rattle.std.proofs.Math.Seq.{take-append_seam, take-length}
+use Rattle.std.proofs.Math.Seq.{take-append_seam}
 use Rattle.member_store.specs.Books.{Begins}
 
 pub begins_whole : (entries more book : List (List ℕ)) → entries ++ more ≡ book → Begins entries book

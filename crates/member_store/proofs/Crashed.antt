@@ -1,5 +1,5 @@
 -- What a crash leaves of a book.
-use Rattle.std.proofs.Common.{◌≡◌, ◌⊎◌, inl, inr, ⊎_elim, ◌≤◌, ℕ, Bool, true, false, cond, List, [], ◌∷◌, ◌++◌, length, take, None, refl, sym, ◌∙◌, subst, append_assoc, length-append, arith}
+use Rattle.std.proofs.Common.{◌≡◌, ◌⊎◌, inl, inr, ⊎_elim, ◌≤◌, ℕ, Bool, true, false, cond, List, [], ◌∷◌, ◌++◌, length, take, refl, sym, ◌∙◌, subst, append_assoc, length-append, arith}
 use Rattle.store_laws.specs.Restored.{Images, restores, with}
 use Rattle.store_laws.specs.States.{StoreState, MayLeave, store_opened}
 use Rattle.store_laws.specs.Lives.{StoreWire, StoreNext}

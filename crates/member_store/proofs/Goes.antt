@@ -1,5 +1,5 @@
 -- The book of a store goes on.
-use Rattle.std.proofs.Common.{◌≡◌, ◌≤◌, ◌+◌, ◌-◌, ◌^◌, min, ℕ, Bool, true, false, cond, List, [], ◌∷◌, ◌++◌, length, None, length-append, refl, sym, ap, ◌∙◌, subst, arith}
+use Rattle.std.proofs.Common.{◌≡◌, ◌≤◌, ◌+◌, ◌-◌, min, ℕ, Bool, true, false, cond, List, [], ◌∷◌, ◌++◌, length, None, length-append, refl, sym, ap, ◌∙◌, subst, arith}
 use Rattle.disk_model.specs.Cells.{Cells, IsSound}
 use Rattle.disk_model.specs.DeviceCalls.{made, CanBeMade}
 use Rattle.disk_model.specs.declared.call.DeviceCall.{DeviceCall}
@@ -7,7 +7,7 @@ use Rattle.disk_model.specs.declared.call.DeviceCall.TheVariants.{Write, Cut, Sy
 use Rattle.disk_model.proofs.Sound.{sound_settled, sound_written, sound_cut}
 use Rattle.store_laws.specs.States.{StoreState, greatest, Begun, Repair, of_group, group_of, some, due_job, begins, begun, advanced, ends, job_called, store_called, given}
 use Rattle.store_laws.specs.Lives.{StoreNext}
-use Rattle.store_laws.specs.Stands.{Aim, at_rest, Runs, StandsBy, OwnRests, IsOwn, aim_called, aim_after, aim_begins, HasSpelling}
+use Rattle.store_laws.specs.Stands.{at_rest, Runs, StandsBy, OwnRests, IsOwn, aim_called, aim_after, aim_begins, HasSpelling}
 use Rattle.store_laws.specs.Books.{GrownBy, BooksBy, Books}
 use Rattle.store_laws.specs.Unswitched.{never, no_tail, OnLog, InTurn, IsUnswitched}
 use Rattle.store_laws.specs.declared.job.Kept.{Kept}

@@ -4,7 +4,7 @@ use Rattle.disk_model.specs.Cells.{Cells}
 use Rattle.disk_model.specs.Memory.{plain_cells}
 use Rattle.disk_model.proofs.Sound.{sound_settled}
 use Rattle.store_form.specs.declared.checkpoint.Checkpoint.{Checkpoint}
-use Rattle.store_laws.specs.Restored.{Images, present_in}
+use Rattle.store_laws.specs.Restored.{Images}
 use Rattle.store_laws.specs.States.{greatest, store_opened}
 use Rattle.store_laws.specs.Stands.{at_rest}
 use Rattle.store_laws.specs.Lives.{no_bytes, nothing, StoreWire}

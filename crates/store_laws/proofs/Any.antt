@@ -167,11 +167,11 @@ opened_log_slot true false images = refl
 opened_log_slot false true images = refl
 opened_log_slot false false images = refl
 
-behind : (front rest : List ℕ) → drop (suc (length front)) (front ++ rest) ≡ drop 1 rest
+pub behind : (front rest : List ℕ) → drop (suc (length front)) (front ++ rest) ≡ drop 1 rest
 behind [] rest = refl
 behind (x ∷ front) rest = behind front rest
 
-front_of : (front rest : List ℕ) → take (length front) (front ++ rest) ≡ front
+pub front_of : (front rest : List ℕ) → take (length front) (front ++ rest) ≡ front
 front_of front rest = take_at front rest (length front) refl
 
 module _ (sure : Images) (read : IsRead (log_image (side_of (present_in sure)) sure)) where

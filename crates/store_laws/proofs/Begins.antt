@@ -118,7 +118,7 @@ torn_is Closed is = absurd cc
 torn_is Torn is = refl
 torn_is Open is = absurd cc
 
-sides : (odd b : Bool) → (odd ≡ b) ⊎ (odd ≡ not b)
+pub sides : (odd b : Bool) → (odd ≡ b) ⊎ (odd ≡ not b)
 sides true true = inl refl
 sides true false = inr refl
 sides false true = inr refl

@@ -1,6 +1,7 @@
 -- Each crash restores at least as many entries as are firm, but for those that the present log no longer has, or a later generation.
 use Rattle.std.proofs.Common.{◌≡◌, ◌⊎◌, inl, inr, ℕ, ◌+◌, ◌≤◌, ◌<◌, Bool, not, List, [], ◌∷◌, ◌++◌, length, refl, sym, ◌∙◌, ap, subst, arith, length-append}
 use Rattle.std.proofs.lemmas.Grind.{flat_map-append}
+use Rattle.std.proofs.lemmas.List.{append-nil}
 use Rattle.store_form.specs.Spelling.{Group, checkpoint_text}
 use Rattle.store_form.specs.declared.checkpoint.Checkpoint.{Checkpoint}
 use Rattle.checkpoint_store.specs.Slots.{generation_of}
@@ -9,7 +10,7 @@ use Rattle.store_laws.specs.Restored.{Images, log_image, side_of, entries_of, re
 use Rattle.store_laws.specs.States.{StoreState, side, slot_gate_of, Begun, NoJob, Close, Repair, Switch, AddGroup, begins, switch_calls, advanced, ends, job_called, MayLeave, store_opened, given, asked}
 use Rattle.store_laws.specs.Lives.{StoreWire, StoreNext, Either}
 use Rattle.store_laws.specs.Stands.{Aim, at_rest, StandsBy, OwnRests, IsOwn, aim_called, aim_after, aim_begins}
-use Rattle.store_laws.specs.Counts.{Beyond, IsLater, Adding, Grows, CountsBy, Counts, gone_by, gone_after}
+use Rattle.store_laws.specs.Counts.{Beyond, BeginsWith, IsLater, Adding, Grows, CountsBy, Counts, gone_by, gone_after}
 use Rattle.store_laws.specs.declared.job.Kept.{Kept}
 use Rattle.store_laws.specs.declared.job.Tail.{Tail}
 use Rattle.store_laws.specs.declared.job.Gate.{Gate}
@@ -23,31 +24,32 @@ use Rattle.store_laws.proofs.Goes.{own_leaves}
 
 -- ---- what a torn gate may bring back
 
-same_beyond : (kept : Kept) → Beyond kept kept
-same_beyond kept = inr (omega arith)
+pub same_beyond : (kept : Kept) → Beyond kept kept
+same_beyond kept =
+    let none : kept.entries ≡ kept.entries ++ [] = sym (append-nil kept.entries) in
+    inr ([], λ i. record { present = kept.present; entries = none i })
 
-more_entries : (gs : List Group) (g : Group) → length (entries_of gs) ≤ length (entries_of (gs ++ g ∷ []))
-more_entries gs g =
-    let is = ap (λ (l : List (List ℕ)). length l) (flat_map-append (λ (group : Group). group) gs (g ∷ [])) ∙ length-append (entries_of gs) (entries_of (g ∷ [])) in
-    omega (arith, is)
+-- the entries of these groups, and more
+abbrev More : List Group → List Group → Type 0
+More gs other = (more : List (List ℕ)) × (entries_of other ≡ entries_of gs ++ more)
 
-wire_more : (bytes : List ℕ) (gs other : List Group) → Wire bytes gs other → length (entries_of gs) ≤ length (entries_of other)
+wire_more : (bytes : List ℕ) (gs other : List Group) → Wire bytes gs other → More gs other
 wire_more bytes gs other w = by w.1
   where
-    same : other ≡ gs → length (entries_of gs) ≤ length (entries_of other)
-    same is = subst (λ (l : List Group). length (entries_of gs) ≤ length (entries_of l)) (sym is) (omega arith)
+    same : other ≡ gs → More gs other
+    same is = ([], ap entries_of is ∙ sym (append-nil (entries_of gs)))
 
-    by : (Ends bytes gs other ⊎ (Bare bytes gs other ⊎ Armed bytes gs other)) → length (entries_of gs) ≤ length (entries_of other)
+    by : (Ends bytes gs other ⊎ (Bare bytes gs other ⊎ Armed bytes gs other)) → More gs other
     by (inl e) = same e.nothing
     by (inr (inl b)) = same b.nothing
-    by (inr (inr x)) = subst (λ (l : List Group). length (entries_of gs) ≤ length (entries_of l)) (sym x.is) (more_entries gs x.group)
+    by (inr (inr x)) = (entries_of (x.group ∷ []), ap entries_of x.is ∙ flat_map-append (λ (group : Group). group) gs (x.group ∷ []))
 
 wire_beyond : (images : Images) (kept other : Kept) → StoreWire images kept other → Beyond kept other
 wire_beyond images kept other (inl w) =
     let more = wire_more (log_image (side_of kept.present) images) w.own w.own_other w.log in
-    let from = ap (λ (l : List (List ℕ)). length l) w.entries in
-    let to = ap (λ (k : Kept). length k.entries) w.is in
-    inr (omega (arith, more, from, to))
+    let entries : other.entries ≡ kept.entries ++ more.0 = ap (λ (k : Kept). k.entries) w.is ∙ more.1 ∙ ap (λ (l : List (List ℕ)). l ++ more.0) (sym w.entries) in
+    let present : other.present ≡ kept.present = ap (λ (k : Kept). k.present) w.is in
+    inr (more.0, λ i. record { present = present i; entries = entries i })
 wire_beyond images kept other (inr t) =
     let to = ap (λ (k : Kept). generation_of k.present) t.held.is in
     let beyond = t.held.beyond in
@@ -73,9 +75,7 @@ grows_switch odd Torn text end last added kept then = tt
 grows_switch odd Open text end last added kept then = tt
 
 with_more : (kept : Kept) (group : Group) → Beyond kept (with kept group)
-with_more kept group =
-    let is = length-append kept.entries group in
-    inr (omega (arith, is))
+with_more kept group = inr (group, refl)
 
 counts_begins_by : (job : Begun) (gone : ℕ) (s : StoreState) (a : Aim) → OwnRests s a.kept a.stake → s.running ≡ [] → Counts gone s a → Counts gone (begins job s) (aim_begins job s a)
 counts_begins_by NoJob gone s a r idle c = c
@@ -180,18 +180,15 @@ pub counts_asked : (gone : ℕ) (s : StoreState) (a : Aim) (snapshot : List ℕ)
 counts_asked gone s a snapshot c = record { most = c.most; stake = c.stake; gated = c.gated; later = c.later; grows = c.grows }
 
 pub counts_crash : (gone : ℕ) (s : StoreState) (a : Aim) → Counts gone s a → IsOwn s a → (images : Images) → MayLeave s.devices images
-    → (generation_of a.kept.present < generation_of (restores images).present) ⊎ (s.firm ≤ gone + length (restores images).entries)
+    → (generation_of a.kept.present < generation_of (restores images).present) ⊎ BeginsWith a.kept gone s.firm (restores images)
 counts_crash gone s a c own images may = by (next_restores images a.kept a.stake (own_leaves s a own images may)) c.stake
   where
-    by : Either images a.kept a.stake → Beyond a.kept a.stake → (generation_of a.kept.present < generation_of (restores images).present) ⊎ (s.firm ≤ gone + length (restores images).entries)
-    by (inl is) beyond =
-        let same = ap (λ (k : Kept). length k.entries) is in
-        let most = c.most in
-        inr (omega (arith, same, most))
-    by (inr is) (inl beyond) =
+    later_or : (x : Kept) → restores images ≡ x → Beyond a.kept x → (generation_of a.kept.present < generation_of (restores images).present) ⊎ BeginsWith a.kept gone s.firm (restores images)
+    later_or x is (inl beyond) =
         let same = ap (λ (k : Kept). generation_of k.present) is in
         inl (omega (arith, same, beyond))
-    by (inr is) (inr beyond) =
-        let same = ap (λ (k : Kept). length k.entries) is in
-        let most = c.most in
-        inr (omega (arith, same, most, beyond))
+    later_or x is (inr more) = inr (record { more = more.0; is = is ∙ more.1; most = c.most })
+
+    by : Either images a.kept a.stake → Beyond a.kept a.stake → (generation_of a.kept.present < generation_of (restores images).present) ⊎ BeginsWith a.kept gone s.firm (restores images)
+    by (inl is) beyond = later_or a.kept is (same_beyond a.kept)
+    by (inr is) beyond = later_or a.stake is beyond

@@ -12,6 +12,7 @@ pub mod Moments
 pub mod Firmed
 pub mod Tails
 pub mod SwitchRuns
+pub mod WholeSwitches
 pub mod Aims
 pub mod Any
 pub mod AnyBegins
@@ -20,3 +21,7 @@ pub mod Given
 pub mod Counted
 pub mod Booked
 pub mod Unswitched
+pub mod Stakes
+pub mod Logged
+pub mod LogCounts
+pub mod Asked

@@ -41,7 +41,7 @@ begins_plain Repair s idle = refl
 begins_plain (Switch snapshot) s idle = switch_plain (not (side s)) (slot_gate_of (not (side s)) s) (checkpoint_text (record { generation = s.generation + 1; snapshot = snapshot }))
 begins_plain (AddGroup group) s idle = refl
 
-begun_fits : (stops : List ℕ → Bool) (tail : Tail) (s : StoreState) → CallFits stops tail s → writes_tail (begun stops s).running ≡ true → IsGroup tail.entries
+pub begun_fits : (stops : List ℕ → Bool) (tail : Tail) (s : StoreState) → CallFits stops tail s → writes_tail (begun stops s).running ≡ true → IsGroup tail.entries
 begun_fits stops tail s fits = by (some s.running) refl
   where
     by : (t : Bool) → some s.running ≡ t → writes_tail (cond t s (begins (due_job stops s) s)).running ≡ true → IsGroup tail.entries

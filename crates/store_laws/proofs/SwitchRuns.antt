@@ -37,20 +37,20 @@ begins_generation Repair s = refl
 begins_generation (Switch snapshot) s = refl
 begins_generation (AddGroup group) s = refl
 
-begun_generation : (stops : List ℕ → Bool) (s : StoreState) → (begun stops s).generation ≡ s.generation
+pub begun_generation : (stops : List ℕ → Bool) (s : StoreState) → (begun stops s).generation ≡ s.generation
 begun_generation stops s = by (some s.running)
   where
     by : (t : Bool) → (cond t s (begins (due_job stops s) s)).generation ≡ s.generation
     by true = refl
     by false = begins_generation (due_job stops s) s
 
-called_later : (stops : List ℕ → Bool) (tail : Tail) (s : StoreState) → s.generation ≤ (store_called stops tail s).generation
+pub called_later : (stops : List ℕ → Bool) (tail : Tail) (s : StoreState) → s.generation ≤ (store_called stops tail s).generation
 called_later stops tail s =
     let same = begun_generation stops s in
     let later = job_later tail (begun stops s).running (begun stops s) in
     omega (arith, same, later)
 
-times_later : (stops : List ℕ → Bool) (tail : Tail) (n : ℕ) (s : StoreState) → s.generation ≤ (called_times stops tail n s).generation
+pub times_later : (stops : List ℕ → Bool) (tail : Tail) (n : ℕ) (s : StoreState) → s.generation ≤ (called_times stops tail n s).generation
 times_later stops tail zero s = omega arith
 times_later stops tail (suc n) s =
     let before = times_later stops tail n s in
@@ -84,7 +84,7 @@ module _ (from : ℕ) (snapshot : List ℕ) (tail : Tail) where
   waits_ends (Adds end) device call s generation asked_is none = record { generation_is = generation; asked_is = asked_is; no_switch = none_switch s.ending }
   waits_ends (Switches end last) device call s generation asked_is none = absurd cc
 
-  waits_called : (calls : List StoreCall) (s : StoreState) → s.running ≡ calls → SwitchWaits from snapshot s → SwitchWaits from snapshot (job_called tail calls s)
+  pub waits_called : (calls : List StoreCall) (s : StoreState) → s.running ≡ calls → SwitchWaits from snapshot s → SwitchWaits from snapshot (job_called tail calls s)
   waits_called [] s is w = w
   waits_called (WriteTail ∷ left) s is w = absurd (no_tail_first s.ending left (subst (λ (calls : List StoreCall). NoSwitch calls s.ending) is w.no_switch))
   waits_called (On device call ∷ []) s is w =

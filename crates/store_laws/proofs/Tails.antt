@@ -1,14 +1,15 @@
 -- A switch writes the tail that it is given, and keeps the new generation with that tail's entries.
-use Rattle.std.proofs.Common.{◌≡◌, ◌⊎◌, inl, inr, ℕ, ◌+◌, nat_lt, Bool, true, false, not, cond, List, [], ◌∷◌, length, Option, Some, None, refl, sym, ◌∙◌, ap, subst}
+use Rattle.std.proofs.Common.{◌≡◌, ◌⊎◌, inl, inr, ℕ, ◌+◌, ◌-◌, nat_lt, Bool, true, false, not, cond, List, [], ◌∷◌, ◌++◌, length, take, Option, Some, None, refl, sym, ◌∙◌, ap, subst}
+use Rattle.std.proofs.lemmas.List.{take-append-drop}
 use Rattle.disk_model.specs.declared.call.DeviceCall.{DeviceCall}
 use Rattle.store_form.specs.Spelling.{Group, IsGroup, group_text, checkpoint_text}
 use Rattle.store_form.specs.declared.checkpoint.Checkpoint.{Checkpoint}
 use Rattle.store_laws.specs.Restored.{Images, restores, switched}
-use Rattle.store_laws.specs.States.{StoreState, greatest, side, slot_gate_of, is_torn, switch_calls, Begun, Close, Repair, Switch, of_group, of_asked, group_of, due_job, begins, advanced, ends, job_called, MayLeave, devices_during}
+use Rattle.store_laws.specs.States.{StoreState, greatest, side, slot_gate_of, is_torn, switch_calls, Begun, Close, Repair, Switch, of_group, of_asked, group_of, due_job, begins, firm_by, advanced, ends, job_called, MayLeave, devices_during}
 use Rattle.store_laws.specs.Lives.{StoreNext, Either}
 use Rattle.store_laws.specs.Stands.{Aim, at_rest, Runs, OwnRests, IsOwn, aim_called, aim_after, aim_begins}
-use Rattle.store_laws.specs.Firm.{SwitchCounts}
-use Rattle.store_laws.specs.Tails.{aimed_at, tail_after, OneTail, TailLeft, stake_before, SwitchesBy, HasSwitched}
+use Rattle.store_laws.specs.Firm.{SwitchCounts, KeepsWhatBecameFirm}
+use Rattle.store_laws.specs.Tails.{aimed_at, tail_after, OneTail, TailLeft, stake_before, SwitchesBy, HasSwitched, run_tail}
 use Rattle.store_laws.specs.declared.job.Kept.{Kept}
 use Rattle.store_laws.specs.declared.job.Tail.{Tail}
 use Rattle.store_laws.specs.declared.job.Gate.{Gate}
@@ -27,7 +28,7 @@ use Rattle.store_laws.proofs.Firmed.{switch_counts}
 -- ---- a switch begins
 
 -- where a switch is due, no gate is torn
-due_by : (even odd torn : Bool) (rest : Begun) (snapshot : List ℕ) → cond even (Close false) (cond odd (Close true) (cond torn Repair rest)) ≡ Switch snapshot → (even ≡ false) × (odd ≡ false)
+pub due_by : (even odd torn : Bool) (rest : Begun) (snapshot : List ℕ) → cond even (Close false) (cond odd (Close true) (cond torn Repair rest)) ≡ Switch snapshot → (even ≡ false) × (odd ≡ false)
 due_by true odd torn rest snapshot is = absurd cc
 due_by false true torn rest snapshot is = absurd cc
 due_by false false torn rest snapshot is = (refl, refl)
@@ -135,8 +136,10 @@ tail_goes kept next None s a tail WriteTail more (last ∷ left) w = record {
 -- ---- a switch ends
 
 -- a store that has switched: no job runs, and no gate is torn
-record Ended (generation : ℕ) (s : StoreState) : Type 0 where
+record Ended (generation end : ℕ) (s : StoreState) : Type 0 where
   pub idle : s.running ≡ []
+  pub end_is : s.end ≡ end
+  pub none_added : s.adding ≡ []
   pub generation_is : s.generation ≡ generation + 1
   pub even_calm : is_torn s.even ≡ false
   pub odd_calm : is_torn s.odd ≡ false
@@ -146,20 +149,24 @@ calm_or_open : (t : Bool) (gate : Gate) → is_torn gate ≡ false → (is_torn 
 calm_or_open true gate calm = (refl, calm)
 calm_or_open false gate calm = (calm, refl)
 
-ended : (ending : Ending) (end last : ℕ) (s : StoreState) → ending ≡ Switches end last → is_torn s.even ≡ false → is_torn s.odd ≡ false → Ended s.generation (ends ending s)
+ended : (ending : Ending) (end last : ℕ) (s : StoreState) → ending ≡ Switches end last → is_torn s.even ≡ false → is_torn s.odd ≡ false → Ended s.generation end (ends ending s)
 ended ending end last s is even odd_is =
-    subst (λ (e : Ending). Ended s.generation (ends e s)) (sym is)
-    (record { idle = refl; generation_is = refl; even_calm = (calm_or_open (side s) s.even even).0; odd_calm = (calm_or_open (side s) s.odd odd_is).1; calm = refl })
+    subst (λ (e : Ending). Ended s.generation end (ends e s)) (sym is)
+    (record { idle = refl; end_is = refl; none_added = refl; generation_is = refl; even_calm = (calm_or_open (side s) s.even even).0; odd_calm = (calm_or_open (side s) s.odd odd_is).1; calm = refl })
 
 last_call : (given : Tail) (next : Checkpoint) (s : StoreState) (a : Aim) (other : Kept) → s.ending ≡ Switches (1 + length (group_text given.entries)) given.made → is_torn s.even ≡ false → is_torn s.odd ≡ false → next.generation ≡ s.generation + 1
     → a.then ≡ switched next given.entries → IsOwn (ends s.ending s) (at_rest a.then other a.next) → HasSwitched next given (ends s.ending s) (at_rest a.then other a.next)
 last_call given next s a other is even odd_is generation then_is own =
     let e = ended s.ending (1 + length (group_text given.entries)) given.made s is even odd_is in
+    let other_is = calm_stake (ends s.ending s) (at_rest a.then other a.next) e.idle e.even_calm e.odd_calm e.calm own ∙ then_is in
     record {
       idle = e.idle;
       generation_is = e.generation_is ∙ sym generation;
+      end_is = e.end_is;
+      none_added = e.none_added;
       kept_is = then_is;
-      stake_is = calm_stake (ends s.ending s) (at_rest a.then other a.next) e.idle e.even_calm e.odd_calm e.calm own ∙ then_is;
+      stake_is = other_is;
+      gated_is = other_is;
     }
 
 pub tail_ends : (kept : Kept) (next : Checkpoint) (before : Option Tail) (s : StoreState) (a : Aim) (tail : Tail) (call : StoreCall) (other : Kept) → SwitchesBy (call ∷ []) kept next before s a
@@ -188,6 +195,31 @@ tail_ends kept next None s a tail WriteTail other w own = (
   ),
 )
 tail_ends kept next (Some given) s a tail WriteTail other w own = absurd w.tail_left
+
+-- ---- a tail that ends with the entries that it makes firm
+
+covers : (then : Kept) (given : Tail) (s new : StoreState) (front : List (List ℕ)) → then.entries ≡ given.entries → SwitchCounts given.made s new → given.entries ≡ front ++ take (firm_by given.made s - s.firm) s.waiting
+    → KeepsWhatBecameFirm s new then
+covers then given s new front then_is counts ends_with = record {
+  front = front;
+  became = take (new.firm - s.firm) s.waiting;
+  kept_is = then_is ∙ ends_with ∙ ap (λ (n : ℕ). front ++ take (n - s.firm) s.waiting) (sym counts.firm);
+  became_is = refl;
+  waited = ap (λ (l : List (List ℕ)). take (new.firm - s.firm) s.waiting ++ l) counts.waiting ∙ take-append-drop (new.firm - s.firm) s.waiting;
+}
+
+pub tail_covers : (kept : Kept) (next : Checkpoint) (before : Option Tail) (s : StoreState) (a : Aim) (tail : Tail) (call : StoreCall) (other : Kept) (written : Tail) (front : List (List ℕ)) → SwitchesBy (call ∷ []) kept next before s a
+    → tail_after tail call before ≡ Some written → written.entries ≡ front ++ take (firm_by written.made s - s.firm) s.waiting
+    → KeepsWhatBecameFirm s (job_called tail (call ∷ []) s) (aim_after [] other (aim_called tail call [] a)).kept
+tail_covers kept next None s a tail (On device call) other written front w is ends_with = absurd w.tail_left
+tail_covers kept next (Some given) s a tail (On device call) other written front w is ends_with =
+    let same : given ≡ written = ap (λ (o : Option Tail). run_tail tail o) is in
+    covers a.then written s (job_called tail (On device call ∷ []) s) front (ap (λ (k : Kept). k.entries) w.then_is ∙ ap (λ (t : Tail). t.entries) same)
+    (subst (λ (t : Tail). SwitchCounts t.made s (job_called tail (On device call ∷ []) s)) same (switch_counts tail (On device call) s (1 + length (group_text given.entries)) given.made w.ending_is)) ends_with
+tail_covers kept next before s a tail WriteTail other written front w is ends_with =
+    let same : tail ≡ written = ap (λ (o : Option Tail). run_tail tail o) is in
+    covers (switched a.next tail.entries) written s (job_called tail (WriteTail ∷ []) s) front (ap (λ (t : Tail). t.entries) same)
+    (subst (λ (t : Tail). SwitchCounts t.made s (job_called tail (WriteTail ∷ []) s)) same (switch_counts tail WriteTail s (1 + length (group_text tail.entries)) tail.made refl)) ends_with
 
 -- ---- what a crash restores
 

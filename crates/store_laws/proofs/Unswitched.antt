@@ -1,5 +1,5 @@
 -- A store that is not asked to switch stays at generation 0, through each job, each call and each crash.
-use Rattle.std.proofs.Common.{◌≡◌, inl, inr, ℕ, ◌+◌, ◌==◌, nat_lt, Bool, true, false, not, cond, List, [], ◌∷◌, ◌++◌, length, get_or, Option, None, refl, sym, ◌∙◌, ap, subst, arith}
+use Rattle.std.proofs.Common.{◌≡◌, inl, inr, ℕ, nat_lt, Bool, true, false, cond, List, [], ◌∷◌, ◌++◌, get_or, Option, None, refl, sym, ◌∙◌, ap, subst, arith}
 use Rattle.disk_model.specs.Cells.{Cells, IsImage, settled}
 use Rattle.disk_model.specs.declared.call.DeviceCall.{DeviceCall}
 use Rattle.disk_model.proofs.Images.{image_settled}
@@ -11,7 +11,7 @@ use Rattle.batch_log.specs.Wires.{Wire}
 use Rattle.batch_log.proofs.Lives.{wire_restores}
 use Rattle.checkpoint_store.specs.Slots.{is_odd, newest, generation_of}
 use Rattle.store_laws.specs.Restored.{Images, log_image, side_of, present_in, entries_of, slot_gate, log_torn}
-use Rattle.store_laws.specs.States.{StoreState, greatest, is_torn, Begun, Close, Repair, AddGroup, of_group, of_asked, group_of, calls_on, repair_begins, group_begins, due_job, begins, begun, some, advanced, ends, job_called, store_called, MayLeave, store_opened, given}
+use Rattle.store_laws.specs.States.{StoreState, greatest, is_torn, Begun, Close, Repair, of_group, of_asked, group_of, calls_on, repair_begins, group_begins, due_job, begins, begun, some, advanced, ends, job_called, store_called, MayLeave, store_opened, given}
 use Rattle.store_laws.specs.Lives.{LogTorn, StoreNext}
 use Rattle.store_laws.specs.Stands.{Aim, StandsBy, OwnRests, IsOwn, HasSpelling}
 use Rattle.store_laws.specs.Unswitched.{never, OnLog, InTurn, IsUnswitched}

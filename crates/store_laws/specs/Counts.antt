@@ -1,6 +1,7 @@
 -- The number of firm entries, beside what a store stands for.
 use Rattle.std.specs.Prelude.{◌≡◌, ◌≤◌, ◌<◌, ◌⊎◌, ◌+◌, ◌-◌, ℕ, List, [], ◌∷◌, length}
 use Rattle.checkpoint_store.specs.Slots.{generation_of}
+use Rattle.store_laws.specs.Restored.{with}
 use Rattle.store_laws.specs.States.{StoreState}
 use Rattle.store_laws.specs.Stands.{Aim}
 use Rattle.store_laws.specs.declared.job.Kept.{Kept}
@@ -9,9 +10,16 @@ use Rattle.store_laws.specs.declared.job.Ending.TheVariants.{Closes, Repairs, Ad
 use Rattle.store_laws.specs.declared.job.StoreCall.{StoreCall}
 use Rattle.store_laws.specs.declared.job.StoreCall.TheVariants.{On, WriteTail}
 
--- a later generation, or no fewer entries
+-- a later generation, or the same checkpoint and first the same entries
 abbrev pub Beyond : Kept → Kept → Type 0
-Beyond kept other = (generation_of kept.present < generation_of other.present) ⊎ (length kept.entries ≤ length other.entries)
+Beyond kept other = (generation_of kept.present < generation_of other.present) ⊎ ((more : List (List ℕ)) × (other ≡ with kept more))
+
+-- This has the checkpoint of what is kept, and first all entries that are kept. They are at least as many as are firm, but for those that are
+-- gone.
+pub record BeginsWith (kept : Kept) (gone firm : ℕ) (x : Kept) : Type 0 where
+  pub more : List (List ℕ)
+  pub is : x ≡ with kept more
+  pub most : firm ≤ gone + length kept.entries
 
 -- the calls that are left write no tail, or the generation that they switch to is a later one
 abbrev pub IsLater : List StoreCall → ℕ → ℕ → Type 0
@@ -30,8 +38,9 @@ abbrev pub Grows : List StoreCall → Ending → ℕ → ℕ → ℕ → Type 0
 Grows [] ending added kept then = Unit {0}
 Grows (call ∷ left) ending added kept then = Adding ending added kept then
 
--- A store whose running job still makes these calls. `gone` is the number of firm entries that the present log no longer has. Of numbers
--- alone: it keeps at least as many entries as the others that are firm. Which entries they are says the book.
+-- A store whose running job still makes these calls. `gone` is the number of firm entries that the present log no longer has. The store keeps
+-- at least as many entries as the others that are firm. Which entries these are says the book. What may be restored instead is a later
+-- generation, or begins with all that is kept.
 pub record CountsBy (calls : List StoreCall) (gone : ℕ) (s : StoreState) (a : Aim) : Type 0 where
   pub most : s.firm ≤ gone + length a.kept.entries
   pub stake : Beyond a.kept a.stake

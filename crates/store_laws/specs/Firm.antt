@@ -1,7 +1,8 @@
 -- The number of firm entries, and the entries that are not firm yet.
-use Rattle.std.specs.Prelude.{◌≡◌, ◌≤◌, ◌+◌, ◌-◌, ℕ, min, max, List, [], ◌∷◌, ◌++◌, length, drop}
+use Rattle.std.specs.Prelude.{◌≡◌, ◌≤◌, ◌+◌, ◌-◌, ℕ, min, max, List, [], ◌∷◌, ◌++◌, length, take, drop}
 use Rattle.store_laws.specs.States.{StoreState, greatest}
 use Rattle.store_laws.specs.Books.{NoTail}
+use Rattle.store_laws.specs.declared.job.Kept.{Kept}
 use Rattle.store_laws.specs.declared.job.Ending.{Ending}
 use Rattle.store_laws.specs.declared.job.Ending.TheVariants.{Closes, Repairs, Adds, Switches}
 use Rattle.store_laws.specs.declared.job.StoreCall.{StoreCall}
@@ -50,6 +51,15 @@ pub record SwitchCounts (made : ℕ) (old new : StoreState) : Type 0 where
   pub adding : new.adding ≡ []
   pub waiting : new.waiting ≡ drop (new.firm - old.firm) old.waiting
   pub firm : new.firm ≡ max old.firm (min (old.restored + made) greatest)
+
+-- A switch has ended, and this is kept now. The entries that became firm at its end are the last ones of what is kept, and the others that
+-- waited still wait.
+pub record KeepsWhatBecameFirm (old new : StoreState) (kept : Kept) : Type 0 where
+  pub front : List (List ℕ)
+  pub became : List (List ℕ)
+  pub kept_is : kept.entries ≡ front ++ became
+  pub became_is : became ≡ take (new.firm - old.firm) old.waiting
+  pub waited : became ++ new.waiting ≡ old.waiting
 
 -- The first of the entries that were not firm became firm. The others still are not, in their order: none is dropped.
 pub record Firms (old new : StoreState) : Type 0 where

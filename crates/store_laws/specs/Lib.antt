@@ -8,3 +8,6 @@ pub mod Counts
 pub mod Books
 pub mod Runs
 pub mod Unswitched
+pub mod Stakes
+pub mod Logs
+pub mod Asked

@@ -1,9 +1,9 @@
 -- A switch and its tail: what it aims at before the tail is written and after it, and what it has reached at its end.
-use Rattle.std.specs.Prelude.{◌≡◌, ◌≤◌, ◌⊎◌, ◌+◌, ℕ, Bool, true, false, List, [], ◌∷◌, length, Option, Some, None}
+use Rattle.std.specs.Prelude.{◌≡◌, ◌≤◌, ◌<◌, ◌⊎◌, ◌+◌, ℕ, Bool, true, false, List, [], ◌∷◌, length, Option, Some, None}
 use Rattle.store_form.specs.Spelling.{group_text}
 use Rattle.store_form.specs.declared.checkpoint.Checkpoint.{Checkpoint}
 use Rattle.store_laws.specs.Restored.{switched}
-use Rattle.store_laws.specs.States.{StoreState, is_torn, some}
+use Rattle.store_laws.specs.States.{StoreState, is_torn, some, Switch, due_job}
 use Rattle.store_laws.specs.Stands.{Aim, IsOwn}
 use Rattle.store_laws.specs.Runs.{called_times}
 use Rattle.store_laws.specs.Books.{NoTail}
@@ -61,12 +61,15 @@ pub record SwitchesBy (calls : List StoreCall) (kept : Kept) (next : Checkpoint)
   pub odd_calm : is_torn s.odd ≡ false
 
 -- A store after a switch to the checkpoint `next` with this tail. It keeps the new generation with the tail's entries, and may restore no
--- other thing.
+-- other thing. Its log ends where the tail does: one gate, and one group. No group runs.
 pub record HasSwitched (next : Checkpoint) (tail : Tail) (s : StoreState) (a : Aim) : Type 0 where
   pub idle : s.running ≡ []
   pub generation_is : s.generation ≡ next.generation
+  pub end_is : s.end ≡ 1 + length (group_text tail.entries)
+  pub none_added : s.adding ≡ []
   pub kept_is : a.kept ≡ switched next tail.entries
   pub stake_is : a.stake ≡ switched next tail.entries
+  pub gated_is : a.gated ≡ switched next tail.entries
 
 -- ---- a switch that is asked for
 
@@ -108,3 +111,39 @@ pub record SwitchEnded (stops : List ℕ → Bool) (from : ℕ) (snapshot : List
   pub aim : Aim
   pub own : IsOwn (called_times stops tail call s) aim
   pub has : HasSwitched (next_of from snapshot) tail (called_times stops tail call s) aim
+
+-- ---- a whole switch
+
+-- the tail of a switch over a run that gives this tail: that one, unless another was written before the run
+abbrev pub run_tail : Tail → Option Tail → Tail
+run_tail tail None = tail
+run_tail tail (Some written) = written
+
+-- A switch from `kept` to the checkpoint `next` runs. Its tail is `last`, if the run gives the tail `tail`.
+pub record SwitchesFrom (kept : Kept) (next : Checkpoint) (tail last : Tail) (s : StoreState) (a : Aim) : Type 0 where
+  pub before : Option Tail
+  pub last_is : run_tail tail before ≡ last
+  pub is : SwitchesBy s.running kept next before s a
+
+-- It is the next job that begins.
+pub record SwitchDue (stops : List ℕ → Bool) (kept : Kept) (next : Checkpoint) (tail last : Tail) (s : StoreState) (a : Aim) : Type 0 where
+  pub last_is : tail ≡ last
+  pub idle : s.running ≡ []
+  pub due : due_job stops s ≡ Switch next.snapshot
+  pub generation_is : next.generation ≡ s.generation + 1
+  pub kept_is : a.kept ≡ kept
+
+-- it runs, or is the next job that begins
+abbrev pub SwitchNow : (List ℕ → Bool) → Kept → Checkpoint → Tail → Tail → StoreState → Aim → Type 0
+SwitchNow stops kept next tail last s a = SwitchesFrom kept next tail last s a ⊎ SwitchDue stops kept next tail last s a
+
+-- A run of this many calls, at one of which a switch began that had waited. It began from what was kept then, and runs.
+pub record SwitchBegan (stops : List ℕ → Bool) (from : ℕ) (snapshot : List ℕ) (tail : Tail) (n : ℕ) (s : StoreState) : Type 0 where
+  pub call : ℕ
+  pub among : call < n
+  pub aim : Aim
+  pub own : IsOwn (called_times stops tail call s) aim
+  pub due : SwitchDue stops aim.kept (next_of from snapshot) tail tail (called_times stops tail call s) aim
+  pub now : Aim
+  pub now_own : IsOwn (called_times stops tail n s) now
+  pub is : SwitchesFrom aim.kept (next_of from snapshot) tail tail (called_times stops tail n s) now

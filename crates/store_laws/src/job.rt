@@ -50,7 +50,9 @@ pub enum Ending {
 #[derive(Drop)]
 pub struct Tail {
     /// The number, from 1, of the last of these entries that was made in this life. It is 0 if that
-    /// entry was restored, or there is none.
+    /// entry was restored, or there is none. At the switch's end all up to this number are firm, and
+    /// wait no more, whatever the tail holds. The giver of a tail thus sees to it that those which
+    /// waited till then are its last entries.
     pub made: u64,
     pub entries: Sequence<Bytes>,
 }

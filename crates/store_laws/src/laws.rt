@@ -1,19 +1,22 @@
 //! The laws of a store over two generations, through all its lives. They speak of definitions alone.
-ghost use Rattle.std.specs.Prelude.{◌≡◌, ◌≤◌, ◌<◌, ◌⊎◌, ◌+◌, ℕ, suc, Bool, false, List, [], ◌∷◌, ◌++◌, length, Option, Some, None};
+ghost use Rattle.std.specs.Prelude.{◌≡◌, ◌≤◌, ◌<◌, ◌⊎◌, ◌+◌, ◌-◌, ℕ, suc, Bool, true, false, List, [], ◌∷◌, ◌++◌, length, take, Option, Some, None};
 ghost use Rattle.disk_model.specs.declared.call.DeviceCall.{DeviceCall};
 ghost use Rattle.disk_model.specs.declared.call.DeviceCall.TheVariants.{Sync};
 ghost use Rattle.checkpoint_store.specs.Slots.{generation_of};
 ghost use Rattle.store_form.specs.Spelling.{IsGroup};
 ghost use Rattle.store_form.specs.declared.checkpoint.Checkpoint.{Checkpoint};
 ghost use Rattle.store_laws.specs.Restored.{Images, log_image, side_of, present_in, restores, switched};
-ghost use Rattle.store_laws.specs.States.{StoreState, greatest, is_torn, Begun, NoJob, Switch, is_due, given, asked, due_job, begins, call_of, ending_of, job_called, store_called, MayLeave, devices_during, store_opened};
+ghost use Rattle.store_laws.specs.States.{StoreState, greatest, is_torn, Begun, NoJob, Switch, is_due, wants_tail, given, asked, due_job, begins, begun, call_of, ending_of, firm_by, job_called, store_called, MayLeave, devices_during, store_opened};
 ghost use Rattle.store_laws.specs.Lives.{StoreWire, StoreNext, Either, no_bytes, nothing};
-ghost use Rattle.store_laws.specs.Runs.{called_times, CallFits, RunFits, CallLeaves, aim_then};
-ghost use Rattle.store_laws.specs.Tails.{aimed_at, tail_after, stake_before, SwitchesBy, HasSwitched, next_of, SwitchGoes, SwitchComes, SwitchEnded};
-ghost use Rattle.store_laws.specs.Firm.{not_firm, GroupAdds, SameEntries, KeepsCount, GroupCounts, SwitchCounts, Firms};
+ghost use Rattle.store_laws.specs.Runs.{called_times, CallFits, RunFits, CallLeaves, RunLeaves, aim_begun, aim_then};
+ghost use Rattle.store_laws.specs.Tails.{aimed_at, tail_after, stake_before, SwitchesBy, HasSwitched, next_of, SwitchWaits, SwitchGoes, SwitchComes, SwitchEnded, run_tail, SwitchesFrom, SwitchNow, SwitchBegan};
+ghost use Rattle.store_laws.specs.Firm.{not_firm, GroupAdds, SameEntries, KeepsCount, GroupCounts, SwitchCounts, KeepsWhatBecameFirm, Firms};
 ghost use Rattle.store_laws.specs.declared.job.Device.{Device};
 ghost use Rattle.store_laws.specs.Stands.{Aim, at_rest, Leaves, Runs, IsRead, AnyRests, OwnRests, StoreStands, IsOwn, instead, aim_called, aim_after, aim_begins, HasSpelling, KeptOrNew, Switching};
-ghost use Rattle.store_laws.specs.Counts.{Counts, CountsBy, gone_after};
+ghost use Rattle.store_laws.specs.Stakes.{StakesIn, Stakes, LeftBy};
+ghost use Rattle.store_laws.specs.Logs.{log_of, next_log, MakesBy, Logs, written_by, ended_by, written_then, ended_then, LogGoes, counted, TailCounts};
+ghost use Rattle.store_laws.specs.Asked.{IsOneOf, Snapshot, Snapshots};
+ghost use Rattle.store_laws.specs.Counts.{BeginsWith, Counts, CountsBy, gone_after};
 ghost use Rattle.store_laws.specs.Books.{Books, BooksBy, IsFront};
 ghost use Rattle.store_laws.specs.Unswitched.{never, IsUnswitched};
 ghost use Rattle.store_laws.specs.declared.job.Ending.TheVariants.{Closes, Repairs, Adds, Switches};
@@ -129,6 +132,39 @@ pub fn a_run_switches()
         → (b : Aim) × (IsOwn (called_times stops tail (suc n) s) b × HasSwitched (next_of from snapshot) tail (called_times stops tail (suc n) s) b) }
 {}
 
+/// A whole switch, over any run of calls that go well, from what was kept when it began. While the
+/// generation is the old one, the switch goes on from just that. A crash at any moment then restores
+/// that, or the next generation with the tail of the switch, and no third thing. After its end each
+/// crash restores the next generation. Its tail is the one that the run gives, unless another was
+/// written before the run.
+pub fn a_whole_switch_keeps_or_gives()
+    ensures goes { (stops : List ℕ → Bool) (kept : Kept) (next : Checkpoint) (before : Option Tail) (tail : Tail) (n : ℕ) (s : StoreState) (a : Aim) → IsOwn s a → SwitchesBy s.running kept next before s a → RunFits stops tail n s
+        → (called_times stops tail n s).generation ≡ s.generation
+        → (b : Aim) × (IsOwn (called_times stops tail n s) b × SwitchesFrom kept next tail (run_tail tail before) (called_times stops tail n s) b) }
+    // A switch that runs, and one that is the next job to begin.
+    ensures runs { (stops : List ℕ → Bool) (kept : Kept) (next : Checkpoint) (before : Option Tail) (tail : Tail) (s : StoreState) (a : Aim) → SwitchesBy s.running kept next before s a → SwitchNow stops kept next tail (run_tail tail before) s a }
+    ensures due { (stops : List ℕ → Bool) (snapshot : List ℕ) (tail : Tail) (s : StoreState) (a : Aim) → s.running ≡ [] → due_job stops s ≡ Switch snapshot → SwitchNow stops a.kept (next_of s.generation snapshot) tail tail s a }
+    ensures begins { (stops : List ℕ → Bool) (kept : Kept) (next : Checkpoint) (tail last : Tail) (n : ℕ) (s : StoreState) (a : Aim) → IsOwn s a → SwitchNow stops kept next tail last s a → RunFits stops tail (suc n) s
+        → (called_times stops tail (suc n) s).generation ≡ s.generation
+        → (b : Aim) × (IsOwn (called_times stops tail (suc n) s) b × SwitchesFrom kept next tail last (called_times stops tail (suc n) s) b) }
+    // A crash at any moment of the run, whose last call may have failed.
+    ensures leaves { (stops : List ℕ → Bool) (kept : Kept) (next : Checkpoint) (tail last : Tail) (n : ℕ) (s : StoreState) (a : Aim) → IsOwn s a → SwitchNow stops kept next tail last s a → RunFits stops tail n s
+        → (called_times stops tail n s).generation ≡ s.generation → (images : Images) → RunLeaves stops tail n s images
+        → (restores images ≡ kept) ⊎ (restores images ≡ switched next last.entries) }
+    // The call at which the generation changes ends the switch.
+    ensures ends { (stops : List ℕ → Bool) (kept : Kept) (next : Checkpoint) (tail last : Tail) (n : ℕ) (s : StoreState) (a : Aim) → IsOwn s a → SwitchNow stops kept next tail last s a → RunFits stops tail (suc n) s
+        → (called_times stops tail n s).generation ≡ s.generation → (called_times stops tail (suc n) s).generation ≡ s.generation + 1
+        → (b : Aim) × (IsOwn (called_times stops tail (suc n) s) b × HasSwitched next last (called_times stops tail (suc n) s) b) }
+    ensures after { (stops : List ℕ → Bool) (kept : Kept) (next : Checkpoint) (tail last : Tail) (n : ℕ) (s : StoreState) (a : Aim) → IsOwn s a → SwitchNow stops kept next tail last s a → RunFits stops tail (suc n) s
+        → (called_times stops tail n s).generation ≡ s.generation → (called_times stops tail (suc n) s).generation ≡ s.generation + 1
+        → (images : Images) → MayLeave (called_times stops tail (suc n) s).devices images → restores images ≡ switched next last.entries }
+    // A switch that waits for other jobs. What is kept may grow by a group until it begins; from then on it stays.
+    ensures waits { (stops : List ℕ → Bool) (from : ℕ) (snapshot : List ℕ) (tail : Tail) (n : ℕ) (s : StoreState) (a : Aim) → IsOwn s a → SwitchWaits from snapshot s → RunFits stops tail n s → (called_times stops tail n s).generation ≡ from
+        → ((b : Aim) × (IsOwn (called_times stops tail n s) b × SwitchWaits from snapshot (called_times stops tail n s))) ⊎ SwitchBegan stops from snapshot tail n s }
+    // A switch that began waits no more.
+    ensures unasked { (stops : List ℕ → Bool) (snapshot : List ℕ) (tail : Tail) (n : ℕ) (s : StoreState) → s.running ≡ [] → due_job stops s ≡ Switch snapshot → (called_times stops tail (suc n) s).asked ≡ None }
+{}
+
 /// The number of firm entries does not fall.
 pub fn what_is_firm_stays_firm()
     ensures rises { (stops : List ℕ → Bool) (tail : Tail) (s : StoreState) → s.firm ≤ greatest → s.firm ≤ (store_called stops tail s).firm }
@@ -136,11 +172,16 @@ pub fn what_is_firm_stays_firm()
 {}
 
 /// At a group's end its entries are firm, and no others became so. At a switch's end as many are firm
-/// as were before, or as were restored and made up to the last entry of its tail. No other call makes
-/// any firm. What waits leaves for the group that begins, or because it became firm.
+/// as were before, or as were restored and made up to the number `made` of its tail. Those that became
+/// firm wait no more, and are kept only if the tail holds them: clause `tail`. No other call makes any
+/// firm. What waits leaves for the group that begins, or because it became firm.
 pub fn a_job_counts_what_it_makes()
     ensures group { (tail : Tail) (device : Device) (call : DeviceCall) (s : StoreState) (end : ℕ) → s.ending ≡ Adds end → GroupCounts s (job_called tail (On device call ∷ []) s) }
     ensures switch { (tail : Tail) (call : StoreCall) (s : StoreState) (end made : ℕ) → ending_of tail call s.ending ≡ Switches end made → SwitchCounts made s (job_called tail (call ∷ []) s) }
+    // If the tail ends with the entries that it makes firm, these are the last ones that are kept then.
+    ensures tail { (kept : Kept) (next : Checkpoint) (before : Option Tail) (s : StoreState) (a : Aim) (tail : Tail) (call : StoreCall) (other : Kept) (written : Tail) (front : List (List ℕ)) → SwitchesBy (call ∷ []) kept next before s a
+        → tail_after tail call before ≡ Some written → written.entries ≡ front ++ take (firm_by written.made s - s.firm) s.waiting
+        → KeepsWhatBecameFirm s (job_called tail (call ∷ []) s) (aim_after [] other (aim_called tail call [] a)).kept }
     ensures close { (tail : Tail) (device : Device) (call : DeviceCall) (s : StoreState) (odd : Bool) → s.ending ≡ Closes odd → KeepsCount s (job_called tail (On device call ∷ []) s) }
     ensures repair { (tail : Tail) (device : Device) (call : DeviceCall) (s : StoreState) → s.ending ≡ Repairs → KeepsCount s (job_called tail (On device call ∷ []) s) }
     // A call that ends no job.
@@ -198,9 +239,10 @@ pub fn nothing_is_due()
     ensures kept { (stops : List ℕ → Bool) (s : StoreState) (a : Aim) → is_due stops s ≡ false → StoreStands s a → a.stake ≡ a.kept }
 {}
 
-/// How many entries are firm, and how many a crash restores; which ones they are says the book. A crash
-/// restores a later generation, or at least as many entries as are firm, but for those that are gone
-/// from the present log. These are 0 until a switch ends, and change at the end of a switch alone.
+/// How many entries are firm, and which ones a crash restores. It restores a later generation, or the
+/// present one with all entries that are kept, and then maybe more. Those kept are at least as many as
+/// are firm, but for those that are gone from the present log. Gone are 0 until a switch ends, and
+/// their number changes at the end of a switch alone.
 pub fn what_is_counted()
     ensures opened { (images : Images) (kept other : Kept) (next : Checkpoint) → StoreWire images kept other → Counts 0 (store_opened images) (at_rest kept other next) }
     ensures begins { (job : Begun) (gone : ℕ) (s : StoreState) (a : Aim) → s.running ≡ [] → IsOwn s a → Counts gone s a → Counts gone (begins job s) (aim_begins job s a) }
@@ -210,7 +252,62 @@ pub fn what_is_counted()
     ensures given { (gone : ℕ) (s : StoreState) (a : Aim) (entries : List (List ℕ)) → Counts gone s a → Counts gone (given entries s) a }
     ensures asked { (gone : ℕ) (s : StoreState) (a : Aim) (snapshot : List ℕ) → Counts gone s a → Counts gone (asked snapshot s) a }
     ensures crash { (gone : ℕ) (s : StoreState) (a : Aim) → Counts gone s a → IsOwn s a → (images : Images) → MayLeave s.devices images
-        → (generation_of a.kept.present < generation_of (restores images).present) ⊎ (s.firm ≤ gone + length (restores images).entries) }
+        → (generation_of a.kept.present < generation_of (restores images).present) ⊎ BeginsWith a.kept gone s.firm (restores images) }
+{}
+
+/// A job leaves nothing new at stake. At its end it is nothing but what is kept then, or, if the gate
+/// of a slot was closed while that of the present log is torn, what was at stake before.
+pub fn a_job_leaves_nothing_new_at_stake()
+    ensures opened { (images : Images) (a : Aim) → Stakes (store_opened images) a }
+    ensures begins { (stops : List ℕ → Bool) (s : StoreState) (a : Aim) → s.running ≡ [] → IsOwn s a → Stakes (begins (due_job stops s) s) (aim_begins (due_job stops s) s a) }
+    ensures goes { (tail : Tail) (call more : StoreCall) (left : List StoreCall) (s : StoreState) (a : Aim) → StakesIn (call ∷ (more ∷ left)) s a
+        → Stakes (job_called tail (call ∷ (more ∷ left)) s) (aim_called tail call (more ∷ left) a) }
+    ensures ends { (tail : Tail) (call : StoreCall) (s : StoreState) (a : Aim) (other : Kept) → StakesIn (call ∷ []) s a → IsOwn (job_called tail (call ∷ []) s) (aim_after [] other (aim_called tail call [] a))
+        → (other ≡ (aim_called tail call [] a).then) ⊎ ((s.torn ≡ true) × (other ≡ a.stake)) }
+    // One device call, with the job that may begin at it.
+    ensures called { (stops : List ℕ → Bool) (tail : Tail) (other : Kept) (s : StoreState) (a : Aim) → IsOwn s a → Stakes s a → IsOwn (store_called stops tail s) (aim_then stops tail other s a)
+        → Stakes (store_called stops tail s) (aim_then stops tail other s a) × LeftBy (begun stops s).running (begun stops s).torn (aim_begun stops s a).stake (aim_then stops tail other s a) }
+    ensures given { (s : StoreState) (a : Aim) (entries : List (List ℕ)) → Stakes s a → Stakes (given entries s) a }
+    ensures asked { (s : StoreState) (a : Aim) (snapshot : List ℕ) → Stakes s a → Stakes (asked snapshot s) a }
+{}
+
+/// The log of a store, switched or not: what it keeps, what its group adds, and what waits. Each call
+/// leaves it as it is, but the one at which a switch ends. Then it is the tail that was written, and
+/// what waits that is not in it; and the checkpoint is that of the switch.
+pub fn a_log_goes_on()
+    ensures opened { (images : Images) (kept other : Kept) (next : Checkpoint) → Logs None (store_opened images) (at_rest kept other next) × (log_of (store_opened images) (at_rest kept other next) ≡ kept.entries) }
+    ensures begins { (stops : List ℕ → Bool) (written : Option Tail) (s : StoreState) (a : Aim) → s.running ≡ [] → Logs written s a
+        → LogGoes None None s a (begins (due_job stops s) s) (aim_begins (due_job stops s) s a) }
+    ensures goes { (tail : Tail) (call : StoreCall) (left : List StoreCall) (written : Option Tail) (s : StoreState) (a : Aim) (other : Kept) → MakesBy s.ending (call ∷ left) written s.adding a
+        → LogGoes (ended_by tail (call ∷ left) written) (written_by tail (call ∷ left) written) s a (job_called tail (call ∷ left) s) (aim_after left other (aim_called tail call left a)) }
+    ensures called { (stops : List ℕ → Bool) (tail : Tail) (other : Kept) (written : Option Tail) (s : StoreState) (a : Aim) → Logs written s a
+        → LogGoes (ended_then stops tail s written) (written_then stops tail s written) s a (store_called stops tail s) (aim_then stops tail other s a) }
+    ensures given { (written : Option Tail) (s : StoreState) (a : Aim) (entries : List (List ℕ)) → Logs written s a → Logs written (given entries s) a × (log_of (given entries s) a ≡ log_of s a ++ entries) }
+    ensures next_given { (tail : Tail) (s : StoreState) (entries : List (List ℕ)) → firm_by tail.made s - s.firm ≤ length s.waiting → next_log tail (given entries s) ≡ next_log tail s ++ entries }
+    ensures asked { (written : Option Tail) (s : StoreState) (a : Aim) (snapshot : List ℕ) → Logs written s a → Logs written (asked snapshot s) a × (log_of (asked snapshot s) a ≡ log_of s a) }
+{}
+
+/// Each call leaves the number of entries that a store counts: those that are firm, those of its group,
+/// and those that wait. If the last entry of a tail was counted when the tail was written, all of the
+/// tail that is not firm waits.
+pub fn what_waits_was_counted()
+    ensures opened { (images : Images) → counted (store_opened images) ≡ (store_opened images).firm }
+    ensures called { (stops : List ℕ → Bool) (tail : Tail) (written : Option Tail) (s : StoreState) (a : Aim) → Logs written s a → TailCounts written s → (wants_tail s ≡ true → s.restored + tail.made ≤ counted s) → counted s ≤ greatest
+        → (counted (store_called stops tail s) ≡ counted s) × TailCounts (written_then stops tail s written) (store_called stops tail s) }
+    ensures waits { (tail : Tail) (s : StoreState) (a : Aim) → Logs (Some tail) s a → s.restored + tail.made ≤ counted s → firm_by tail.made s - s.firm ≤ length s.waiting }
+    ensures given { (written : Option Tail) (s : StoreState) (entries : List (List ℕ)) → TailCounts written s → (counted (given entries s) ≡ counted s + length entries) × TailCounts written (given entries s) }
+{}
+
+/// Each snapshot that a crash may restore, in all its lives, is one that a store was asked to switch
+/// to, or one that it had at first.
+pub fn a_store_keeps_what_was_asked()
+    ensures opened { (all : List (List ℕ)) (images : Images) (kept other : Kept) (next : Checkpoint) → Snapshot (IsOneOf all) kept → Snapshot (IsOneOf all) other → Snapshots (IsOneOf all) (store_opened images) (at_rest kept other next) }
+    ensures called { (all : List (List ℕ)) (stops : List ℕ → Bool) (tail : Tail) (other : Kept) (written : Option Tail) (s : StoreState) (a : Aim) → IsOwn s a → Logs written s a → Stakes s a
+        → IsOwn (store_called stops tail s) (aim_then stops tail other s a) → Snapshots (IsOneOf all) s a → Snapshots (IsOneOf all) (store_called stops tail s) (aim_then stops tail other s a) }
+    ensures given { (all : List (List ℕ)) (s : StoreState) (a : Aim) (entries : List (List ℕ)) → Snapshots (IsOneOf all) s a → Snapshots (IsOneOf all) (given entries s) a }
+    ensures asked { (all : List (List ℕ)) (s : StoreState) (a : Aim) (snapshot : List ℕ) → IsOneOf all snapshot → Snapshots (IsOneOf all) s a → Snapshots (IsOneOf all) (asked snapshot s) a }
+    ensures left { (all : List (List ℕ)) (images : Images) (kept other : Kept) → Snapshot (IsOneOf all) kept → Snapshot (IsOneOf all) other → StoreNext images kept other
+        → (now : Kept) × ((instead : Kept) × (StoreWire images now instead × (Snapshot (IsOneOf all) now × Snapshot (IsOneOf all) instead))) }
 {}
 
 /// A store that is not asked to switch keeps a front of its book: the entries that it restored and

@@ -1,7 +1,6 @@
 -- The restart of a node from what a host's devices hold.
 use Rattle.std.specs.Prelude.{ℕ, List, Option, Some, None}
 use Rattle.smart_base.specs.Views.{View}
-use Rattle.smart_base.specs.declared.limits.TheConstants.{PERIOD}
 use Rattle.smart_service.specs.Services.{Meaning}
 use Rattle.store_laws.specs.Restored.{restores}
 use Rattle.node_rules.specs.Nodes.{Node}

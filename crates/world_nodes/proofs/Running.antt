@@ -1,5 +1,5 @@
 -- Nodes that run, and those that are told to be absent.
-use Rattle.std.proofs.Common.{◌≡◌, ℕ, Bool, true, false, Option, Some, None, refl, ap, sym, ◌∙◌, cond}
+use Rattle.std.proofs.Common.{◌≡◌, ℕ, Bool, true, false, Some, None, refl, ap, sym, ◌∙◌, cond}
 use Rattle.std.specs.Prelude.{slice_get}
 use Rattle.world_rules.specs.Worlds.{Host, World, telling, is_up, at_index, at_host}
 use Rattle.world_rules.specs.declared.line.OutLine.TheVariants as outs

@@ -1,4 +1,5 @@
 use Rattle.durable_store.proofs.Ran.{holds_opened, holds_given, run_holds, run_firm_then, done_restores}
+use Rattle.durable_store.proofs.Switched.{book_switched, book_left}
 use Rattle.durable_store.proofs.laws.a_run_keeps_its_book.Goals as goal
 
 pub returns-clause-opened : goal.returns-clause-opened
@@ -15,3 +16,9 @@ returns-clause-firm c = run_firm_then
 
 pub returns-clause-done : goal.returns-clause-done
 returns-clause-done c = done_restores
+
+pub returns-clause-switched : goal.returns-clause-switched
+returns-clause-switched c = book_switched
+
+pub returns-clause-left : goal.returns-clause-left
+returns-clause-left c = book_left

@@ -1,4 +1,5 @@
 use Rattle.store_laws.proofs.Firmed.{goes_on, close_counts, repair_counts, group_counts, switch_counts, opened_adds, given_adds, asked_adds, job_takes, job_firm, call_adds, call_firms}
+use Rattle.store_laws.proofs.Tails.{tail_covers}
 use Rattle.store_laws.proofs.laws.a_job_counts_what_it_makes.Goals as goal
 
 pub returns-clause-group : goal.returns-clause-group
@@ -6,6 +7,9 @@ returns-clause-group c = group_counts
 
 pub returns-clause-switch : goal.returns-clause-switch
 returns-clause-switch c = switch_counts
+
+pub returns-clause-tail : goal.returns-clause-tail
+returns-clause-tail c = tail_covers
 
 pub returns-clause-close : goal.returns-clause-close
 returns-clause-close c = close_counts
