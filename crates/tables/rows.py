@@ -176,6 +176,8 @@ class Reader:
             self.optional(self.batch)
         elif kind == 6 and any_kind:
             self.signed(False, self.sync)
+        elif kind == 9 and any_kind:
+            self.signed(False, self.mark)
         else:
             raise Fault(at)
 
@@ -412,8 +414,9 @@ def messages():
     table.give("full", "05 decided-locked 01 batch")
     table.give("little", "05 marked 00")
     table.give("sync", sync_words(table, ["decided-locked"]))
+    table.give("marking", "09 mark")
     table.part("Each message is fine, whatever is in its report.")
-    for name in ("ask", "propose", "vote", "reply", "stop"):
+    for name in ("ask", "propose", "vote", "reply", "stop", "marking"):
         table.spelled(name, FINE)
     table.spelled("03 write", FINE)
     for name in shapes:
@@ -455,10 +458,10 @@ def messages():
     table.spelled("head 0041 65*request", "61")
     table.spelled("head 0000", "61")
     table.part("Each front of a message.")
-    for name in ("ask", "propose", "vote", "reply", "stop", "full", "little", "sync"):
+    for name in ("ask", "propose", "vote", "reply", "stop", "full", "little", "sync", "marking"):
         table.fronts(name)
     table.part("Each value of each byte of a message. Of a byte that may have any value, the least and the greatest.")
-    for name in ("ask", "propose", "vote", "reply", "stop", "full", "little", "sync"):
+    for name in ("ask", "propose", "vote", "reply", "stop", "full", "little", "sync", "marking"):
         table.changes(name)
     return table
 

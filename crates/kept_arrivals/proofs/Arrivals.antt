@@ -12,6 +12,7 @@ use Rattle.smart_messages.specs.Regencies.{stops, syncs}
 use Rattle.smart_statements.specs.declared.statement.Request.{Request}
 use Rattle.smart_statements.specs.declared.statement.Slot.{Slot}
 use Rattle.smart_statements.specs.declared.statement.Ballot.{Ballot}
+use Rattle.smart_statements.specs.declared.report.Mark.{Mark}
 use Rattle.smart_messages.specs.declared.regency.Stop.{Stop}
 use Rattle.smart_messages.specs.declared.regency.Sync.{Sync}
 use Rattle.smart_messages.specs.declared.regency.Reported.{Reported}
@@ -25,7 +26,7 @@ use Rattle.regency_sync.proofs.Lists.{any_filter, filter_end}
 use Rattle.regency_sync.proofs.Needs.{stop_repeats, report_repeats, sync_repeats}
 use Rattle.replica_rules.specs.Replicas.{is_next}
 use Rattle.replica_rules.specs.Seals.{is_verified}
-use Rattle.node_rules.specs.Arrivals.{is_same_proposal, is_same_vote, signer_why, view_why, place_why, regency_why, wish_why, slot_why, why_ask, is_batch_for, is_unbound, why_propose, why_vote, why_unasked, why_stop, is_proven, why_report, is_collect, why_sync, why_dropped, noted, kept}
+use Rattle.node_rules.specs.Arrivals.{is_same_proposal, is_same_vote, signer_why, view_why, place_why, regency_why, wish_why, slot_why, why_ask, is_batch_for, is_unbound, why_propose, why_vote, why_unasked, why_stop, is_proven, why_report, is_collect, why_sync, why_mark, why_dropped, noted, kept}
 use Rattle.replica_rules.specs.Pools.{offered}
 use Rattle.node_rules.specs.Nodes.{Node, view_of, regency_of, start_of, is_begun, decided_place, synchronizer_of}
 use Rattle.node_rules.specs.declared.node.Why.{Why}
@@ -153,6 +154,10 @@ why_sync_same n s =
     (cond (not (is_collect n s.statement)) (Some BadProof) (cond (is_begun n s.statement.regency || again) (Some Repeated) None)))
     (sync_repeats_same n s (needed_here n s.statement.view s.statement.regency (view_is n s.statement.view here) (ltb-false s.statement.regency (regency_of n) later))))))
 
+why_mark_same : {S : Type 0} (n : Node S) (m : SignedBy Mark) → why_mark (trimmed n) m ≡ why_mark n m
+unfolding why_mark trimmed
+why_mark_same n m = refl
+
 pub why_same : {S : Type 0} (n : Node S) (message : Message) → why_dropped (trimmed n) message ≡ why_dropped n message
 unfolding why_unasked signer_why trimmed
 why_same n (Ask q) = why_ask_same n q
@@ -161,6 +166,7 @@ why_same n (Vote b) = why_vote_same n b
 why_same n (changes.Stop s) = why_stop_same n s
 why_same n (changes.StopData r) = why_report_same n r
 why_same n (changes.Sync s) = why_sync_same n s
+why_same n (changes.Mark m) = why_mark_same n m
 why_same n _ = refl
 
 -- ---- what an arrival tells
@@ -241,6 +247,10 @@ kept_sync n s needed =
     ap (λ (kept_ones : List (SignedBy Sync)). record (trimmed n) { syncs = kept_ones; behind = n.behind || nat_lt (decided_place n + 1) (choice s.statement.collect).base })
     (filter_end (needs_sync (view_of n).number (regency_of n)) n.syncs s needed)
 
+kept_mark : {S : Type 0} (n : Node S) (m : SignedBy Mark) → kept (trimmed n) (changes.Mark m) ≡ trimmed (kept n (changes.Mark m))
+unfolding kept trimmed regency_of
+kept_mark n m = refl
+
 pub kept_same : {S : Type 0} (n : Node S) (message : Message) → why_dropped n message ≡ None → kept (trimmed n) message ≡ trimmed (kept n message)
 unfolding kept trimmed
 kept_same n (Ask q) none = kept_ask n q
@@ -249,4 +259,5 @@ kept_same n (Vote b) none = kept_vote n b (vote_ahead n b none)
 kept_same n (changes.Stop s) none = kept_stop n s (stop_needed n s none)
 kept_same n (changes.StopData r) none = kept_report n r (report_needed n r none)
 kept_same n (changes.Sync s) none = kept_sync n s (sync_needed n s none)
+kept_same n (changes.Mark m) none = kept_mark n m
 kept_same n _ none = refl

@@ -33,6 +33,7 @@ summary_of (changes.StopData r) =
 summary_of (changes.Sync s) =
     summaries.Sync s.statement.view s.statement.regency (choice s.statement.collect).base (is_some (choice s.statement.collect).bound)
 summary_of (Reply a) = summaries.Reply a.statement.client a.statement.seq a.statement.place a.statement.index
+summary_of (changes.Mark m) = summaries.Mark m.statement.place
 
 -- a number after a space
 abbrev pub after_space : ℕ → List ℕ
@@ -56,4 +57,5 @@ summary_text (summaries.Stop v r) = codes "stop" ++ (after_space v ++ after_spac
 summary_text (summaries.StopData v r last lock) = codes "stopdata" ++ (after_space v ++ (after_space r ++ (after_space last ++ lock_text lock)))
 summary_text (summaries.Sync v r base bound) = codes "sync" ++ (after_space v ++ (after_space r ++ (after_space base ++ bound_text bound)))
 summary_text (summaries.Reply c s k i) = codes "reply" ++ (after_space c ++ (after_space s ++ (after_space k ++ after_space i)))
+summary_text (summaries.Mark k) = codes "mark" ++ after_space k
 summary_text summaries.Raw = codes "raw"

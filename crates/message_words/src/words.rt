@@ -59,6 +59,10 @@ pub enum Summary {
         base: u64,
         bound: bool,
     },
+    /// A MARK.
+    Mark {
+        place: Place,
+    },
     /// Bytes that are no message.
     Raw,
 }
@@ -148,6 +152,9 @@ pub fn summary_of(message: &Message) -> Summary
                 index: answer.index,
             }
         }
+        Message::Mark(mark) => Summary::Mark {
+            place: mark.statement().place,
+        },
     }
 }
 
@@ -237,6 +244,10 @@ pub fn push_summary(out: &mut String, summary: Summary) -> Result<(), AllocError
             let (view, regency) = (view.get(), regency.get());
             write!(out, "sync {view} {regency} {base}")?;
             out.push_str(bound_text(bound))
+        }
+        Summary::Mark { place } => {
+            let place = place.get();
+            write!(out, "mark {place}")
         }
         Summary::Raw => out.push_str("raw"),
     }

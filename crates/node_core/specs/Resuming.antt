@@ -15,6 +15,7 @@ going_on secret id back = record {
   stops = [];
   reports = [];
   syncs = [];
+  marks = [];
   entries = back.entries;
   restored = length back.entries;
   firm = length back.entries;

@@ -24,6 +24,7 @@ use smart_base::sequence::Bytes;
 use smart_base::view::View;
 use smart_keys::ring::Ring;
 use smart_service::service::Service;
+use state_marks::table::MarkTable;
 use std::alloc::{AllocError, Global};
 use vote_book::book::Book;
 use vote_book::entry::{LogEntry, Opening};
@@ -58,6 +59,7 @@ pub fn begin<S: Service>(
         pool: RequestPool::new(alloc),
         instance,
         synchronizer,
+        marks: MarkTable::new(alloc),
         book,
         restored: 0,
         firm: 0,
@@ -179,6 +181,7 @@ fn go_on<S: Service>(
         pool: RequestPool::new(alloc),
         instance,
         synchronizer,
+        marks: MarkTable::new(alloc),
         book,
         restored: firm,
         firm,

@@ -4,6 +4,7 @@
 
 mod arrivals;
 pub mod asks;
+mod marks;
 mod reasons;
 mod reports;
 pub mod taking;

@@ -1,11 +1,8 @@
 //! The judging of the messages of a leader change.
 ghost use Rattle.std.specs.Prelude.{◌≡◌, ◌||◌, ◌&&◌, ◌++◌, ◌∷◌, [], None, is_none, IfOk, OnOk, OnErr};
-ghost use Rattle.std.specs.List.{list_any};
-ghost use Rattle.smart_statements.specs.Forms.{SignedBy};
-ghost use Rattle.smart_statements.specs.declared.report.Report.{Report};
 ghost use Rattle.replica_rules.specs.Seals.{is_verified};
 ghost use Rattle.node_rules.specs.Nodes.{ring_of};
-ghost use Rattle.node_rules.specs.Arrivals.{signer_why, why_stop, is_marks, rests_on_marks, bears_lock, is_proven, why_report, is_collect, why_sync, is_newer, noted, kept};
+ghost use Rattle.node_rules.specs.Arrivals.{signer_why, why_stop, bears_lock, is_proven, why_report, is_collect, why_sync, is_newer, noted, kept};
 ghost use Rattle.node_judging.specs.Arriving.{kept_unless};
 ghost use Rattle.smart_messages.specs.declared.message.Message.TheVariants as changes;
 
@@ -15,38 +12,13 @@ use node_restart::batch::is_batch_for;
 use node_rules::node::Why;
 use node_state::state::NodeState;
 use regency_sync::choosing::choice;
-use smart_base::number::{Place, ViewNo};
+use smart_base::number::ViewNo;
 use smart_messages::regency::{Reported, Stop, Sync};
 use smart_service::service::Service;
 use smart_statements::batch::Batch;
-use smart_statements::report::{Evidence, LockCertificate, Report};
+use smart_statements::report::LockCertificate;
 use smart_statements::signed::{Signed, Statement};
 use std::alloc::AllocError;
-
-fn is_marks(evidence: &Evidence) -> bool
-    ensures { result ≡ is_marks evidence.now }
-{
-    match evidence {
-        Evidence::Nothing | Evidence::Decided(_) => false,
-        Evidence::Marked(_) => true,
-    }
-}
-
-/// Whether a report's last place rests on marks.
-fn rests_on_marks(report: &Report) -> bool
-    ensures { result ≡ rests_on_marks report.now }
-{
-    report.last != Place::zero() && is_marks(&report.evidence)
-}
-
-/// Whether the last place of one of some reports rests on marks.
-fn rest_on_marks(reports: &[Signed<Report>]) -> bool
-    ensures { result ≡ list_any (λ (r : SignedBy Report). rests_on_marks r.statement) reports.now }
-{
-    reports
-        .iter()
-        .any(|report| rests_on_marks(report.statement()))
-}
 
 /// Notes that the node lags, if a member's message of a view shows it.
 fn note_view<S: Service, T: Statement>(node: &mut NodeState<S>, signed: &Signed<T>, view: ViewNo)
@@ -196,7 +168,6 @@ fn is_proven<S: Service>(node: &NodeState<S>, reported: &Reported) -> Result<boo
     let report = reported.head.statement();
     let views = node.replica.replica().views.as_slice();
     if !check_evidence(ring, views, report.last, &report.evidence)
-        || rests_on_marks(report)
         || !has_no_false_lock(ring, node.view(), report.last, report.regency, &report.lock)
     {
         return Ok(false);
@@ -239,7 +210,7 @@ fn is_collect<S: Service>(node: &NodeState<S>, sync: &Sync) -> bool
 {
     let views = node.replica.replica().views.as_slice();
     let reports = sync.collect.as_slice();
-    check_collect(node.keys.ring(), views, sync.regency, reports).is_ok() && !rest_on_marks(reports)
+    check_collect(node.keys.ring(), views, sync.regency, reports).is_ok()
 }
 
 #[tactic(auto, unfolding(node_rules::specs::Arrivals::why_sync))]

@@ -6,6 +6,7 @@ ghost use Rattle.node_judging.specs.Arriving.{kept_unless};
 
 use crate::arrivals::{take_proposal, take_vote, why_unasked};
 use crate::asks::take_request;
+use crate::marks::take_mark;
 use crate::reports::{take_report, take_stop, take_sync};
 use node_rules::node::Why;
 use node_state::state::NodeState;
@@ -32,5 +33,6 @@ pub fn take<S: Service>(
         Message::StopData(reported) => take_report(node, reported),
         Message::Sync(sync) => take_sync(node, sync),
         Message::Reply(answer) => Ok(why_unasked(node, &answer)),
+        Message::Mark(mark) => take_mark(node, mark),
     }
 }

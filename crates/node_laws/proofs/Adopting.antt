@@ -1,7 +1,7 @@
 -- A node that adopts the reports with which a leader began a regency stays sound.
 use Rattle.std.proofs.Common.{Bool, List, None, Option, Some, ap, append-nil, arith, cond, false, inl, inr, nat_le, nat_lt, not, refl, subst, suc, sym, true, zero, ℕ, ⊎_elim, ◌≡◌, [], ◌≤◌, ◌<◌, ◌==◌, ◌&&◌, ◌++◌, ◌∷◌, ◌∙◌}
 use Rattle.std.proofs.lemmas.Bool.{eqb-true, leb-true, ltb-false, ltb-true}
-use Rattle.std.specs.List.{flat_map, list_any}
+use Rattle.std.specs.List.{flat_map}
 use Rattle.std.specs.Prelude.{is_none, is_some}
 use Rattle.certificates.proofs.Reported.{collect-exact}
 use Rattle.certificates.specs.Certificates.{AreSigned}
@@ -9,7 +9,7 @@ use Rattle.certificates.specs.Collects.{IsCollect, IsReportOf, collect_fault}
 use Rattle.replica_rules.specs.Seals.{is_verified}
 use Rattle.agreement_laws.specs.Certificates.{IsChosen, IsLockedCollect, IsLockedReport}
 use Rattle.agreement_laws.specs.Statements.{Statement}
-use Rattle.node_rules.specs.Arrivals.{is_collect, rests_on_marks}
+use Rattle.node_rules.specs.Arrivals.{is_collect}
 use Rattle.node_rules.specs.Changes.{adoption, adopts, adopts_by, is_adoptable, promised_for, start_by_sync}
 use Rattle.node_rules.specs.Nodes.{Node, view_start, is_begun, next_place, recording, regency_of, view_of}
 use Rattle.regency_sync.specs.Choices.{choice}
@@ -81,10 +81,9 @@ pub sync_chosen : {S : Type 0} (stated : List Statement) (view : View) (n : Node
 unfolding is_collect
 sync_chosen stated view n s is kept at =
     let fault = collect_fault n.secret n.replica.views s.statement.regency s.statement.collect in
-    let parts = and_true (is_none fault) (not (list_any (λ (r : SignedBy Report). rests_on_marks r.statement) s.statement.collect))
-    (kept.0 (at ∙ ap (λ (v : View). v.number) (in_force stated view n is))).1 in
+    let valid : is_none fault ≡ true = (kept.0 (at ∙ ap (λ (v : View). v.number) (in_force stated view n is))).1 in
     chosen_by n.secret stated view n.replica.views s (in_force stated view n is) kept.1
-    ((collect-exact n.secret n.replica.views s.statement.regency s.statement.collect).0 (none_is fault parts.0))
+    ((collect-exact n.secret n.replica.views s.statement.regency s.statement.collect).0 (none_is fault valid))
 
 -- ---- a beginning that is adopted
 

@@ -24,7 +24,8 @@ use Rattle.smart_messages.specs.declared.regency.Sync.{Sync}
 use Rattle.smart_statements.specs.declared.statement.Ballot.{Ballot}
 use Rattle.smart_statements.specs.declared.statement.Request.{Request}
 use Rattle.smart_statements.specs.declared.statement.Slot.{Slot}
-use Rattle.node_laws.proofs.Nodes.{Arrived, ReportKept, StopKept, SyncKept, aside, keeps}
+use Rattle.node_laws.proofs.Nodes.{Arrived, ReportKept, StopKept, SyncKept, aside, keeps, with_marks}
+use Rattle.state_marks.specs.Tables as tables_of_marks
 use Rattle.node_laws.proofs.Votes.{in_force}
 use Rattle.node_laws.specs.Sound.{IsMembers, IsProposal, IsSound, IsStated}
 use Rattle.smart_messages.specs.declared.message.Message.TheVariants as changes
@@ -152,6 +153,7 @@ sound_arrived stated view n (changes.StopData r) behind is none was =
 sound_arrived stated view n (changes.Sync s) behind is none was =
     keeps stated view n n.pool n.arrivals n.stops n.reports (n.syncs ++ s ∷ []) (behind || nat_lt (decided_place n + 1) (choice s.statement.collect).base) is is.pool is.arrivals is.stops is.reports
     (each_end (SyncKept n stated view) n.syncs s is.syncs (λ of. sync_kept stated view n s is none, was))
+sound_arrived stated view n (changes.Mark m) behind is none was = with_marks stated view n (tables_of_marks.noted m n.marks) behind is
 sound_arrived stated view n _ behind is none was = aside stated view n n.firm n.held n.proposed n.stop_made n.sync_made n.impatient behind is is.held
 
 pub sound_noted : {S : Type 0} (stated : List Statement) (view : View) (n : Node S) (message : Message) → IsSound stated view n → IsSound stated view (noted n message)

@@ -19,6 +19,7 @@ use Rattle.smart_statements.specs.Batches.{Batch}
 use Rattle.smart_messages.specs.Regencies.{stops, syncs}
 use Rattle.smart_statements.specs.Reports.{reports}
 use Rattle.smart_messages.specs.declared.message.Message.{Message}
+use Rattle.smart_statements.specs.declared.report.Mark.{Mark}
 use Rattle.smart_messages.specs.declared.regency.Reported.{Reported}
 use Rattle.smart_messages.specs.declared.regency.Stop.{Stop}
 use Rattle.smart_messages.specs.declared.regency.Sync.{Sync}
@@ -124,6 +125,31 @@ keeps stated view n pool arrivals ss rs ys behind is asked kept_arrivals kept_st
   reports = kept_reports;
   syncs = kept_syncs;
   pool = asked;
+  held = is.held;
+}
+
+-- other marks
+pub with_marks : {S : Type 0} (stated : List Statement) (view : View) (n : Node S) (table : List (SignedBy Mark)) (behind : Bool) → IsSound stated view n
+    → IsSound stated view (record n { marks = table; behind = behind })
+unfolding regency_of is_proven is_collect
+with_marks stated view n table behind is = record {
+  views = is.views;
+  begun = is.begun;
+  lawful = is.lawful;
+  tidy = is.tidy;
+  last = is.last;
+  latest = is.latest;
+  within = is.within;
+  ranged = is.ranged;
+  backed = is.backed;
+  batches = is.batches;
+  waiting = is.waiting;
+  table = is.table;
+  arrivals = is.arrivals;
+  stops = is.stops;
+  reports = is.reports;
+  syncs = is.syncs;
+  pool = is.pool;
   held = is.held;
 }
 

@@ -8,7 +8,7 @@ use Rattle.smart_statements.specs.declared.entry.NodeEvent.{NodeEvent}
 use Rattle.smart_statements.specs.declared.entry.NodeEvent.TheVariants.{Arrive, Tick, Deliver, Firm}
 use Rattle.smart_service.specs.Services.{Meaning}
 use Rattle.node_rules.specs.Nodes.{Node, regency_of, start_of}
-use Rattle.node_rules.specs.Arrivals.{signer_why, slot_why, why_ask, why_propose, why_vote, why_unasked, why_stop, is_proven, why_report, is_collect, why_sync, why_dropped, kept, noted}
+use Rattle.node_rules.specs.Arrivals.{signer_why, slot_why, why_ask, why_propose, why_vote, why_unasked, why_stop, is_proven, why_report, is_collect, why_sync, why_mark, why_dropped, kept, noted}
 use Rattle.node_rules.specs.Rules.{delivers, delivery, proposes, writes, accepts, decides, answers_again}
 use Rattle.node_rules.specs.Changes.{adopts, joins, promises, leads, times}
 use Rattle.node_rules.specs.Steps.{made_firm, Taken, judged, reads, takes_in, Row, deliver_row, adopt_row, join_row, promise_row, lead_row, propose_row, write_row, accept_row, decide_row, time_row, answer_row, turn_rows, vote_rows, end_rows, rules, pass, passed, step_of}
@@ -143,7 +143,7 @@ keeps_rules {S = S} m P n cause fired by is = keeps_behind m (λ (x : Node S) (t
 
 -- that a node is behind gives no reason
 pub why_noted : {S : Type 0} (n : Node S) (behind : Bool) (message : Message) → why_dropped (record n { behind = behind }) message ≡ why_dropped n message
-unfolding why_ask why_propose why_vote why_unasked why_stop why_report why_sync is_proven is_collect signer_why slot_why regency_of start_of
+unfolding why_ask why_propose why_vote why_unasked why_stop why_report why_sync why_mark is_proven is_collect signer_why slot_why regency_of start_of
 why_noted n behind (Ask q) = refl
 why_noted n behind _ = refl
 

@@ -8,15 +8,13 @@ use Rattle.smart_statements.specs.Equality.{same_slot, same_kind}
 use Rattle.smart_statements.specs.Forms.{Form, SignedBy}
 use Rattle.smart_statements.specs.Kinds.{requests, proposals, ballots, answers}
 use Rattle.smart_statements.specs.Batches.{Batch}
-use Rattle.smart_statements.specs.Reports.{reports}
+use Rattle.smart_statements.specs.Reports.{reports, marks}
 use Rattle.smart_messages.specs.Regencies.{stops, syncs}
 use Rattle.smart_statements.specs.declared.statement.Request.{Request}
 use Rattle.smart_statements.specs.declared.statement.Slot.{Slot}
 use Rattle.smart_statements.specs.declared.statement.Ballot.{Ballot}
-use Rattle.smart_statements.specs.declared.report.Evidence.{Evidence}
-use Rattle.smart_statements.specs.declared.report.Evidence.TheVariants as evidence
 use Rattle.smart_statements.specs.declared.report.LockCertificate.{LockCertificate}
-use Rattle.smart_statements.specs.declared.report.Report.{Report}
+use Rattle.smart_statements.specs.declared.report.Mark.{Mark}
 use Rattle.smart_messages.specs.declared.regency.Stop.{Stop}
 use Rattle.smart_messages.specs.declared.regency.Sync.{Sync}
 use Rattle.smart_messages.specs.declared.regency.Reported.{Reported}
@@ -27,6 +25,7 @@ use Rattle.smart_messages.specs.declared.message.Message.TheVariants.{Ask, Propo
 use Rattle.smart_messages.specs.declared.message.Proposed.{Proposed}
 use Rattle.smart_service.specs.Tables as tables
 use Rattle.certificates.specs.Collects.{evidence_holds, has_no_false_lock, collect_fault}
+use Rattle.state_marks.specs.Tables as tables_of_marks
 use Rattle.regency_sync.specs.Choices.{choice}
 use Rattle.regency_sync.specs.Synchronizers.{repeats_stop, repeats_report, repeats_sync}
 use Rattle.replica_rules.specs.Replicas.{is_next}
@@ -143,16 +142,6 @@ why_stop n s =
     (or_else (wish_why n s.statement.regency)
     (if repeats_stop (synchronizer_of n) s then Some Repeated else None)))
 
--- evidence that consists of marks
-abbrev pub is_marks : Evidence → Bool
-is_marks evidence.Nothing = false
-is_marks (evidence.Decided p) = false
-is_marks (evidence.Marked m) = true
-
--- a report whose last place rests on marks. INTERIM(checkpoints): members make no marks, and such a report is no proof.
-abbrev pub rests_on_marks : Report → Bool
-rests_on_marks s = not (s.last == 0) && is_marks s.evidence
-
 -- a report that brings the batch of its lock, if it has a lock; the batch may stand at the place after its last one
 abbrev pub bears_lock : List ℕ → ℕ → Option LockCertificate → Option Batch → Bool
 bears_lock secret place None batch = true
@@ -163,7 +152,6 @@ bears_lock secret place (Some lock) (Some batch) = is_batch_for secret place loc
 unfoldable pub is_proven : {S : Type 0} → Node S → Reported → Bool
 is_proven n r =
     evidence_holds (ring_of n) n.replica.views r.head.statement.last r.head.statement.evidence
-    && not (rests_on_marks r.head.statement)
     && has_no_false_lock (ring_of n) (view_of n) r.head.statement.last r.head.statement.regency r.head.statement.lock
     && bears_lock (ring_of n) (r.head.statement.last + 1) r.head.statement.lock r.batch
 
@@ -180,9 +168,7 @@ why_report n r =
 
 -- the reports of a SYNC that are a valid collect
 unfoldable pub is_collect : {S : Type 0} → Node S → Sync → Bool
-is_collect n s =
-    is_none (collect_fault (ring_of n) n.replica.views s.regency s.collect)
-    && not (list_any (λ (r : SignedBy Report). rests_on_marks r.statement) s.collect)
+is_collect n s = is_none (collect_fault (ring_of n) n.replica.views s.regency s.collect)
 
 -- the first reason to drop a SYNC
 unfoldable pub why_sync : {S : Type 0} → Node S → SignedBy Sync → Option Why
@@ -195,6 +181,17 @@ why_sync n s =
     else if is_begun n s.statement.regency || repeats_sync (synchronizer_of n) s then Some Repeated
     else None))
 
+-- ---- what is stated of replicas
+
+-- The first reason to drop a mark. A node that is no member keeps marks, too.
+unfoldable pub why_mark : {S : Type 0} → Node S → SignedBy Mark → Option Why
+why_mark n m =
+    if not (is_verified marks (ring_of n) m) then Some BadTag
+    else if not (is_member (view_of n) m.signer) then Some Stranger
+    else if nat_le m.statement.place n.replica.place then Some OldPlace
+    else if tables_of_marks.repeats n.marks m then Some Repeated
+    else None
+
 -- ---- messages
 
 -- the first reason to drop a message; none if it is kept
@@ -206,6 +203,7 @@ why_dropped n (changes.Stop s) = why_stop n s
 why_dropped n (changes.StopData r) = why_report n r
 why_dropped n (changes.Sync s) = why_sync n s
 why_dropped n (Reply a) = why_unasked answers n a
+why_dropped n (changes.Mark m) = why_mark n m
 
 -- ---- what tells a node that it is behind
 
@@ -224,6 +222,8 @@ tells_behind n (Vote b) = is_none (signer_why n (is_verified ballots (ring_of n)
 tells_behind n (changes.Stop s) = is_none (signer_why n (is_verified stops (ring_of n) s) s.signer) && is_newer n s.statement.view
 tells_behind n (changes.StopData r) = is_none (signer_why n (is_verified reports (ring_of n) r.head) r.head.signer) && is_newer n r.head.statement.view
 tells_behind n (changes.Sync s) = is_none (signer_why n (is_verified syncs (ring_of n) s) s.signer) && is_newer n s.statement.view
+tells_behind n (changes.Mark m) =
+    is_verified marks (ring_of n) m && is_member (view_of n) m.signer && nat_lt (decided_place n + 1) m.statement.place
 tells_behind n _ = false
 
 -- the node with its note that it lags, if the message shows it or the note stands
@@ -244,3 +244,4 @@ kept n (changes.Sync s) = record n {
   behind = n.behind || nat_lt (decided_place n + 1) (choice s.statement.collect).base;
 }
 kept n (Reply a) = n
+kept n (changes.Mark m) = record n { marks = tables_of_marks.noted m n.marks }

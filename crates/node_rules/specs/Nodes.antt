@@ -6,6 +6,7 @@ use Rattle.smart_statements.specs.Forms.{Form, SignedBy}
 use Rattle.smart_statements.specs.Batches.{Batch}
 use Rattle.smart_statements.specs.declared.statement.Request.{Request}
 use Rattle.smart_statements.specs.declared.statement.Slot.{Slot}
+use Rattle.smart_statements.specs.declared.report.Mark.{Mark}
 use Rattle.smart_messages.specs.declared.regency.Stop.{Stop}
 use Rattle.smart_messages.specs.declared.regency.Sync.{Sync}
 use Rattle.smart_messages.specs.declared.regency.Reported.{Reported}
@@ -40,6 +41,9 @@ pub record Node (S : Type 0) : Type 0 where
   pub reports : List Reported
   -- SYNCs that were kept in this life: the reports with which leaders begin their regencies
   pub syncs : List (SignedBy Sync)
+  -- marks that were kept in this life: what members state of their replicas. Of each member there is one of each place, and of those the 64
+  -- greatest places.
+  pub marks : List (SignedBy Mark)
   -- the book: every entry that the member has written, oldest first
   pub entries : List LogEntry
   -- the number of entries that were restored at the start of this life

@@ -195,6 +195,7 @@ opened o =
       stops = [];
       reports = [];
       syncs = [];
+      marks = [];
       entries = Opened (record { member = o.member; period = o.period; view = present o.replica.views }) ∷ [];
       restored = 0;
       firm = 0;

@@ -25,6 +25,7 @@ use smart_service::service::Service;
 use smart_statements::batch::Batch;
 use smart_statements::signed_list::SignedList;
 use smart_statements::statement::{Ballot, Slot, VoteKind};
+use state_marks::table::MarkTable;
 use std::alloc::{AllocError, Global};
 use std::marker::Model;
 use vote_book::book::Book;
@@ -43,6 +44,8 @@ pub struct NodeState<S> {
     pub instance: Instance,
     /// The STOPs, STOPDATA and SYNCs that were kept, and what the book says of them.
     pub synchronizer: Synchronizer,
+    /// What members state of their replicas.
+    pub marks: MarkTable,
     pub book: Book,
     /// The number of entries that were restored when this life began.
     pub restored: u64,
@@ -64,6 +67,7 @@ impl<S: Drop> Drop for NodeState<S> {
             pool: _,
             instance: _,
             synchronizer: _,
+            marks: _,
             book: _,
             restored: _,
             firm: _,
@@ -92,6 +96,7 @@ impl<S> Model for NodeState<S> {
       stops = c.synchronizer.stops;
       reports = c.synchronizer.reports;
       syncs = c.synchronizer.syncs;
+      marks = c.marks;
       entries = c.book.entries;
       restored = c.restored;
       firm = c.firm;

@@ -12,7 +12,7 @@ use Rattle.smart_statements.specs.Spelling as spells
 use Rattle.smart_statements.specs.Spelling.{FitsSigned}
 use Rattle.smart_statements.specs.SignedLists.{listed, optional, FitsOptional}
 use Rattle.smart_statements.specs.Reports as spells_report
-use Rattle.smart_statements.specs.Reports.{reports, votes_of, FitsVote, FitsReport, FitsEvidence, FitsLockCertificate}
+use Rattle.smart_statements.specs.Reports.{reports, marks, votes_of, FitsVote, FitsMark, FitsReport, FitsEvidence, FitsLockCertificate}
 use Rattle.smart_statements.specs.declared.statement.Ballot.{Ballot}
 use Rattle.smart_statements.specs.declared.statement.VoteKind.{VoteKind}
 use Rattle.smart_statements.specs.declared.statement.VoteKind.TheVariants.{Write, Accept}
@@ -20,12 +20,13 @@ use Rattle.smart_statements.specs.declared.report.DecisionProof.{DecisionProof}
 use Rattle.smart_statements.specs.declared.report.Evidence.{Evidence}
 use Rattle.smart_statements.specs.declared.report.Evidence.TheVariants as evidence
 use Rattle.smart_statements.specs.declared.report.LockCertificate.{LockCertificate}
+use Rattle.smart_statements.specs.declared.report.Mark.{Mark}
+use Rattle.smart_statements.specs.declared.report.MarkCertificate.{MarkCertificate}
 use Rattle.smart_statements.specs.declared.report.Report.{Report}
-use Rattle.certificates.specs.Certificates.{AreSigned, IsDecisionProof, signers}
-use Rattle.certificates.specs.Collects.{view_holding, slot_of, EvidenceHolds, evidence_holds, has_no_false_lock}
+use Rattle.certificates.specs.Certificates.{AreSigned, IsDecisionProof, IsMarkCertificate, signers}
+use Rattle.certificates.specs.Collects.{view_holding, view_numbered, slot_of, EvidenceHolds, evidence_holds, has_no_false_lock}
 use Rattle.certificates.proofs.Reported.{evidence-exact, lock-exact}
 use Rattle.replica_rules.specs.Seals.{is_verified}
-use Rattle.node_rules.specs.Arrivals.{rests_on_marks}
 use Rattle.replica_laws.specs.Sending.{IsTerse}
 use Rattle.replica_laws.proofs.Lists.{if_or, if_cond}
 use Rattle.replica_laws.proofs.Genuine.{signed-length}
@@ -89,10 +90,10 @@ signed_members v [] each = tt
 signed_members v (item ∷ items) each = (each.0, signed_members v items each.1)
 
 -- statements of distinct members of a view
-signed-few : (secret : List ℕ) (v : View) (Wanted : Ballot → Type 0) (votes : List (SignedBy Ballot)) → is_view v ≡ true → AreSigned Ballot secret ballots v Wanted votes → length votes ≤ 31
-signed-few secret v Wanted votes is signed =
-    let few = distinct_few (signers votes) v.members signed.distinct (signed_members v votes signed.members) in
-    let same = signers_length votes in
+signed-few : {A : Type 0} (secret : List ℕ) (form : Form A) (v : View) (Wanted : A → Type 0) (items : List (SignedBy A)) → is_view v ≡ true → AreSigned A secret form v Wanted items → length items ≤ 31
+signed-few secret form v Wanted items is signed =
+    let few = distinct_few (signers items) v.members signed.distinct (signed_members v items signed.members) in
+    let same = signers_length items in
     let members = members-few v is in
     omega (arith, few, same, members)
 
@@ -119,11 +120,48 @@ votes-text secret kind (b ∷ votes) all each =
 votes-length : (secret : List ℕ) (v : View) (Wanted : Ballot → Type 0) (kind : VoteKind) (votes : List (SignedBy Ballot)) → is_view v ≡ true → AreSigned Ballot secret ballots v Wanted votes
     → AllByRecursion (FitsSigned (votes_of kind) (λ signer. FitsVote kind)) votes → length (listed (votes_of kind) votes) ≤ 2792
 votes-length secret v Wanted kind votes is signed all =
-    let few = signed-few secret v Wanted votes is signed in
+    let few = signed-few secret ballots v Wanted votes is signed in
     let text = votes-text secret kind votes all signed.verified in
     omega (arith, few, text)
 
+marks-text : (secret : List ℕ) (items : List (SignedBy Mark)) → AllByRecursion (FitsSigned marks (λ signer. FitsMark)) items → Each (λ m. is_verified marks secret m ≡ true) items
+    → length (flat_map (spells.signed marks) items) ≤ 82 * length items
+marks-text secret [] all each = omega arith
+marks-text secret (m ∷ items) all each =
+    let tag = tag-is marks secret m each.0 in
+    let text : length (spells_report.mark m.statement) ≡ 9 + length m.statement.digest = omega arith in
+    let digest = all.0.statement_fits.digest_fits in
+    let one = signed-length marks m in
+    let rest = marks-text secret items all.1 each.1 in
+    let long = length-append (spells.signed marks m) (flat_map (spells.signed marks) items) in
+    omega (arith, tag, text, digest, one, rest, long)
+
+marks-length : (secret : List ℕ) (v : View) (Wanted : Mark → Type 0) (items : List (SignedBy Mark)) → is_view v ≡ true → AreSigned Mark secret marks v Wanted items
+    → AllByRecursion (FitsSigned marks (λ signer. FitsMark)) items → length (listed marks items) ≤ 2544
+marks-length secret v Wanted items is signed all =
+    let few = signed-few secret marks v Wanted items is signed in
+    let text = marks-text secret items all signed.verified in
+    omega (arith, few, text)
+
 -- ---- evidence
+
+numbered-step : (v : View) (rest : Option View) (same : Bool) → is_view v ≡ true → IfSome rest (λ w. is_view w ≡ true) → IfSome (cond same (Some v) rest) (λ w. is_view w ≡ true)
+numbered-step v rest true one others = one
+numbered-step v rest false one others = others
+
+-- a view of a list that has a number
+numbered-view : (views : List View) (number : ℕ) → Each (λ v. is_view v ≡ true) views → IfSome (view_numbered views number) (λ v. is_view v ≡ true)
+numbered-view [] number each = tt
+numbered-view (v ∷ views) number each = numbered-step v (view_numbered views number) (v.number == number) each.0 (numbered-view views number each.1)
+
+certificate-length : (secret : List ℕ) (last : ℕ) (m : MarkCertificate) (found : Option View) → IfSome found (λ v. is_view v ≡ true)
+    → IsSomeAnd found (λ v. IsMarkCertificate secret v last m.digest m.marks) → FitsEvidence last (evidence.Marked m) → length (spells_report.evidence (evidence.Marked m)) ≤ 2833
+certificate-length secret last m None is shown fit = absurd shown
+certificate-length secret last m (Some v) is shown fit =
+    let list = marks-length secret v _ m.marks is shown.0 fit.marks_fit.1 in
+    let digest = fit.digest_fits in
+    let long = length-append m.digest (listed marks m.marks) in
+    omega (arith, list, digest, long)
 
 -- a view of a list that holds a place
 holding-view : (views : List View) (place : ℕ) → Each (λ v. is_view v ≡ true) views → IfSome (view_holding views place) (λ v. is_view v ≡ true)
@@ -142,19 +180,13 @@ proof-length secret last p (Some v) is shown fit =
     let long = length-append p.digest (listed (votes_of Accept) p.accepts) in
     omega (arith, list, digest, long)
 
-is_first : (last : ℕ) (at : Bool) → (last == 0) ≡ at → (not at && true) ≡ false → last ≡ 0
-is_first last true is no_marks = eqb-true last 0 is
-is_first last false is no_marks = absurd (cc)
-
-evidence-length : (secret : List ℕ) (views : List View) (s : Report) → Each (λ v. is_view v ≡ true) views → IsTerse s → rests_on_marks s ≡ false → (e : Evidence) → s.evidence ≡ e
+evidence-length : (secret : List ℕ) (views : List View) (s : Report) → Each (λ v. is_view v ≡ true) views → IsTerse s → (e : Evidence) → s.evidence ≡ e
     → EvidenceHolds secret views s.last e → FitsEvidence s.last e → length (spells_report.evidence e) ≤ 2833
-evidence-length secret views s all terse no_marks evidence.Nothing is holds fit = omega arith
-evidence-length secret views s all terse no_marks (evidence.Decided p) is (inl first) fit = let clash = sym is ∙ terse first in absurd (cc)
-evidence-length secret views s all terse no_marks (evidence.Decided p) is (inr shown) fit = proof-length secret s.last p (view_holding views s.last) (holding-view views s.last all) shown fit
-evidence-length secret views s all terse no_marks (evidence.Marked m) is holds fit =
-    let marks : rests_on_marks (record s { evidence = evidence.Marked m }) ≡ false = subst (λ (e : Evidence). rests_on_marks (record s { evidence = e }) ≡ false) is no_marks in
-    let clash = sym is ∙ terse (is_first s.last (s.last == 0) refl marks) in
-    absurd (cc)
+evidence-length secret views s all terse evidence.Nothing is holds fit = omega arith
+evidence-length secret views s all terse (evidence.Decided p) is (inl first) fit = let clash = sym is ∙ terse first in absurd (cc)
+evidence-length secret views s all terse (evidence.Decided p) is (inr shown) fit = proof-length secret s.last p (view_holding views s.last) (holding-view views s.last all) shown fit
+evidence-length secret views s all terse (evidence.Marked m) is (inl first) fit = let clash = sym is ∙ terse first in absurd (cc)
+evidence-length secret views s all terse (evidence.Marked m) is (inr shown) fit = certificate-length secret s.last m (view_numbered views m.view) (numbered-view views m.view all) shown fit
 
 -- ---- locks
 
@@ -172,12 +204,12 @@ lock-length secret v last regency (Some l) is holds fit =
 
 -- a report whose evidence and lock hold, and which bears no idle evidence
 pub report-short : (secret : List ℕ) (views : List View) (v : View) (r : SignedBy Report) → Each (λ w. is_view w ≡ true) views → is_view v ≡ true → FitsSigned reports (λ signer. FitsReport) r
-    → is_verified reports secret r ≡ true → evidence_holds secret views r.statement.last r.statement.evidence ≡ true → rests_on_marks r.statement ≡ false
+    → is_verified reports secret r ≡ true → evidence_holds secret views r.statement.last r.statement.evidence ≡ true
     → has_no_false_lock secret v r.statement.last r.statement.regency r.statement.lock ≡ true → IsTerse r.statement → length (spells.signed reports r) ≤ 5720
-report-short secret views v r all is fit tagged holds no_marks lock terse =
+report-short secret views v r all is fit tagged holds lock terse =
     let s : Report = r.statement in
     let tag = tag-is reports secret r tagged in
-    let one = evidence-length secret views s all terse no_marks s.evidence refl ((evidence-exact secret views s.last s.evidence).0 holds) fit.statement_fits.evidence_fits in
+    let one = evidence-length secret views s all terse s.evidence refl ((evidence-exact secret views s.last s.evidence).0 holds) fit.statement_fits.evidence_fits in
     let two = lock-length secret v s.last s.regency s.lock is lock fit.statement_fits.lock_fits in
     let both = length-append (spells_report.evidence s.evidence) (optional spells_report.lock_certificate s.lock) in
     let text : length (spells_report.report s) ≤ 5679 = omega (arith, one, two, both) in

@@ -55,7 +55,7 @@ use Rattle.node_rules.specs.Votes.{is_vote, has_vote, certificate, Named, vote_f
 use Rattle.replica_rules.specs.Pools.{offered, settled, is_within as is_within_limits, filled, batch_of, gathered}
 use Rattle.node_rules.specs.Rules.{reply_of, replying, lines_to_answer, deliver_batch, delivers, batch_under, proposing, propose_batch, proposes, ballot, votable, writing, write_batch, writes, written, accepting, accept_batch, accepts, slot_in, decision_in, decision_ahead, deciding, decide_batch, decides, answering, answer_line, answers_again}
 use Rattle.node_rules.specs.Nodes.{Node, view_of, regency_of, regency_in, greatest_regency, start_of, next_place, open_slot, is_free, is_open, bound_at, synchronizer_of, holding, recording}
-use Rattle.node_rules.specs.Arrivals.{signer_why, view_why, regency_why, bears_lock, is_batch_for, rests_on_marks, is_proven, why_report, why_dropped, kept, noted}
+use Rattle.node_rules.specs.Arrivals.{signer_why, view_why, regency_why, bears_lock, is_batch_for, is_proven, why_report, why_dropped, kept, noted}
 use Rattle.node_rules.specs.Changes.{start_by_sync, promised_for, adopts_by, is_adoptable, adoption, adopts, stop_for, asks_next, joining, joins, report_of, reported_by, next_promise, promising, promise_next, promises, leading, lead_with, leads, is_pressed, timing, passes_on, presses, times}
 use Rattle.node_rules.specs.Steps.{step_of, released, opened, outset}
 use Rattle.node_rules.specs.declared.node.Why.TheVariants.{NotLeader, BadProof}
@@ -71,7 +71,7 @@ use Rattle.replica_laws.proofs.Genuine.{IsGood, good-genuine, AreVerified, FitVo
 use Rattle.replica_laws.proofs.Again.{ForLine, answering-each, each-delivered}
 use Rattle.node_rules.proofs.Rulewise.{KeptByRules, KeptInSteps, keeps_step, ForRead, ForEvent}
 use Rattle.replica_laws.specs.Sending.{IsTerse, ForBatch, IsByteEvent, HoldsGenuine, IsGenuine}
-use Rattle.agreement_laws.proofs.Lists.{each_take, not_true, either, either_by, each_end, each_append}
+use Rattle.agreement_laws.proofs.Lists.{each_take, either, either_by, each_end, each_append}
 use Rattle.smart_base.proofs.SameLists.{and_true}
 use Rattle.smart_base.proofs.ViewFacts.{each-weaken}
 use Rattle.regency_sync.proofs.Lists.{each_filter}
@@ -312,9 +312,8 @@ proven-brief : {S : Type 0} (n : Node S) (r : Reported) → Each (λ v. is_view 
 unfolding is_proven
 proven-brief n r views view fit tagged is terse =
     let one = and_true _ (bears_lock n.secret (r.head.statement.last + 1) r.head.statement.lock r.batch) is in
-    let two = and_true _ (has_no_false_lock n.secret (view_of n) r.head.statement.last r.head.statement.regency r.head.statement.lock) one.0 in
-    let three = and_true (evidence_holds n.secret n.replica.views r.head.statement.last r.head.statement.evidence) (not (rests_on_marks r.head.statement)) two.0 in
-    report-short n.secret n.replica.views (view_of n) r.head views view fit tagged three.0 (not_true (rests_on_marks r.head.statement) three.1) two.1 terse
+    let two = and_true (evidence_holds n.secret n.replica.views r.head.statement.last r.head.statement.evidence) (has_no_false_lock n.secret (view_of n) r.head.statement.last r.head.statement.regency r.head.statement.lock) one.0 in
+    report-short n.secret n.replica.views (view_of n) r.head views view fit tagged two.0 two.1 terse
 
 locked-fits : (secret : List ℕ) (place : ℕ) (lock : Option LockCertificate) (batch : Option Batch) → bears_lock secret place lock batch ≡ true → FitsOptional FitsBatch batch → FitsLocked secret lock batch
 locked-fits secret place None batch borne fit = tt
@@ -446,6 +445,23 @@ fit-kept secret n (changes.Sync s) fine fit is =
       arrivals = is.arrivals;
       told = is.told;
       begun = each_end FitsBegun n.syncs s is.begun fit.content_fits.statement_fits;
+      book = is.book;
+      waiting = is.waiting;
+      held = is.held;
+      service = is.service;
+    }
+fit-kept secret n (changes.Mark k) fine fit is =
+    record {
+      named = is.named;
+      shared = is.shared;
+      view = is.view;
+      views = is.views;
+      regency = is.regency;
+      lines = is.lines;
+      pool = is.pool;
+      arrivals = is.arrivals;
+      told = is.told;
+      begun = is.begun;
       book = is.book;
       waiting = is.waiting;
       held = is.held;

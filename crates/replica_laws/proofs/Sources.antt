@@ -472,6 +472,7 @@ is_from-kept sources n (changes.Sync s) came is = record {
   };
   some = is.some;
 }
+is_from-kept sources n (changes.Mark k) came is = is_from-as sources n _ refl refl refl refl is
 is_from-kept sources n _ came is = is
 
 is_from-deliver_batch : {S : Type 0} (sources : List (List ℕ)) (m : Meaning S) (n : Node S) (batch : Option Batch) → IsFrom sources n → IsFrom sources (deliver_batch m n batch)

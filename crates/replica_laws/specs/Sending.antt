@@ -5,7 +5,7 @@ use Rattle.smart_base.specs.Cuts.{IsBytes}
 use Rattle.smart_base.specs.Lists.{Each}
 use Rattle.smart_statements.specs.Kinds.{requests, proposals, ballots, answers}
 use Rattle.smart_statements.specs.Batches.{Batch}
-use Rattle.smart_statements.specs.Reports.{reports}
+use Rattle.smart_statements.specs.Reports.{reports, marks}
 use Rattle.smart_statements.specs.declared.report.Evidence.TheVariants as evidence
 use Rattle.smart_statements.specs.declared.report.Report.{Report}
 use Rattle.smart_messages.specs.Regencies.{stops, syncs}
@@ -40,13 +40,14 @@ IsOwn id to (Reply a) = (a.signer ≡ id) × (to ≡ targets.Client a.statement.
 IsOwn id to (changes.Stop s) = s.signer ≡ id
 IsOwn id to (changes.StopData r) = (r.head.signer ≡ id) × IsToNode to
 IsOwn id to (changes.Sync s) = s.signer ≡ id
+IsOwn id to (changes.Mark m) = m.signer ≡ id
 
 -- Entries that a message rests on: those that show the statement that it is signed as. A vote has its own entry, a reply its place or a later
 -- one. A report has its promise, after entries that are what it says. Other messages rest on nothing.
 abbrev pub RestsOn : List LogEntry → Message → Type 0
 RestsOn entries m = IsShown digest_of entries (head m)
 
--- a message that orders requests or answers one; it has at most 1,048,576 bytes
+-- a message that orders requests, answers one, or marks a place; it has at most 1,048,576 bytes
 abbrev pub orders : Message → Bool
 orders (Ask q) = true
 orders (Propose p) = true
@@ -55,6 +56,7 @@ orders (Reply a) = true
 orders (changes.Stop s) = false
 orders (changes.StopData r) = false
 orders (changes.Sync s) = false
+orders (changes.Mark m) = true
 
 -- a node whose leaving messages rest on firm entries
 abbrev pub LeavesFirm : {S : Type 0} → Node S → Type 0
@@ -76,6 +78,7 @@ is_tagged secret (Reply a) = is_verified answers secret a
 is_tagged secret (changes.Stop s) = is_verified stops secret s
 is_tagged secret (changes.StopData r) = is_verified reports secret r.head && all_tagged secret r.batch
 is_tagged secret (changes.Sync s) = is_verified syncs secret s && list_all (λ r. is_verified reports secret r) s.statement.collect
+is_tagged secret (changes.Mark m) = is_verified marks secret m
 
 -- a report that bears no evidence if its last place is 0
 abbrev pub IsTerse : Report → Type 0

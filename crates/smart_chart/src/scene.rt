@@ -14,6 +14,7 @@ pub enum Kind {
     Stop,
     StopData,
     Sync,
+    Mark,
     Raw,
 }
 
@@ -70,6 +71,8 @@ impl Kind {
             Some(Kind::StopData)
         } else if word == "sync" {
             Some(Kind::Sync)
+        } else if word == "mark" {
+            Some(Kind::Mark)
         } else if word == "raw" {
             Some(Kind::Raw)
         } else {
@@ -87,6 +90,7 @@ impl Kind {
             Kind::Stop => "STOP",
             Kind::StopData => "STOPDATA",
             Kind::Sync => "SYNC",
+            Kind::Mark => "MARK",
             Kind::Raw => "RAW",
         }
     }
@@ -102,6 +106,7 @@ impl Kind {
             Kind::Stop => "- regency",
             Kind::StopData => "- regency last lock",
             Kind::Sync => "- regency base =",
+            Kind::Mark => "place",
             Kind::Raw => "",
         }
     }
@@ -126,7 +131,8 @@ impl Message<'_> {
                 Party::Client(_) => Audience::View,
                 _ => leader_of(members, regency),
             },
-            Kind::Propose | Kind::Write | Kind::Accept | Kind::Stop | Kind::Sync => Audience::View,
+            Kind::Propose | Kind::Write | Kind::Accept | Kind::Stop | Kind::Sync | Kind::Mark =>
+                Audience::View,
             Kind::Reply => match number_at(self.fields, 0) {
                 Some(client) => Audience::One(Party::Client(client)),
                 None => Audience::Nobody,

@@ -21,7 +21,7 @@ use Rattle.smart_statements.specs.ReportLaws.{report_law, mark_law}
 use Rattle.smart_statements.specs.declared.statement.VoteKind.{VoteKind}
 use Rattle.smart_statements.specs.declared.statement.VoteKind.TheVariants.{Write, Accept}
 use Rattle.smart_messages.specs.Regencies.{stops, FitsStop, syncs, FitsSync, view_infos, FitsViewInfo, stop_law, sync_law, view_info_law}
-use Rattle.smart_messages.specs.Messages.{kind, content, spelling, FitsContent, Fits, ask_at, propose_at, vote_at, stop_message_at, stop_data_at, sync_message_at, reply_at, body_at, is_kind, message_kind_at, message_at, decoded, batch_in, Statement, Asked, Proposed, Voted, Stopped, Reported, Synced, Marked, Replied, Informed, sealed, sealed_of, head}
+use Rattle.smart_messages.specs.Messages.{kind, content, spelling, FitsContent, Fits, ask_at, propose_at, vote_at, stop_message_at, stop_data_at, sync_message_at, reply_at, mark_message_at, body_at, is_kind, message_kind_at, message_at, decoded, batch_in, Statement, Asked, Proposed, Voted, Stopped, Reported, Synced, Marked, Replied, Informed, sealed, sealed_of, head}
 use Rattle.smart_messages.specs.declared.message.Sealed.{Sealed}
 use Rattle.smart_messages.specs.declared.message.Message.{Message}
 use Rattle.smart_messages.specs.declared.message.Message.TheVariants.{Ask, Propose, Vote, Reply}
@@ -49,6 +49,9 @@ report_part = signed_law reports (λ signer. FitsReport) (omega arith) report_la
 
 sync_part : Law (FitsSigned syncs (λ signer. FitsSync)) (signed syncs) (signed_at syncs)
 sync_part = signed_law syncs (λ signer. FitsSync) (omega arith) sync_law
+
+mark_part : Law (FitsSigned marks (λ signer. FitsMark)) (signed marks) (signed_at marks)
+mark_part = signed_law marks (λ signer. FitsMark) (omega arith) mark_law
 
 batch_part : Law (FitsOptional FitsBatch) (optional batch_text) (optional_at (batch_at requests))
 batch_part = optional_law FitsBatch batch_text (batch_at requests) batch_law
@@ -115,14 +118,22 @@ sync_takes c y bs e =
     let t = sync_part.takes c b.0 bs b.1 in
     subst (λ (y : Message × Cut). IsTaken 6 c y.0 y.1) (ok_is (changes.Sync b.0.0, b.0.1) y b.2) ((refl, t.0), t.1)
 
-last_of : (a b c d e f g : Bool) → (a || b || c || d || e || f || g) ≡ true → a ≡ false → b ≡ false → c ≡ false → d ≡ false → e ≡ false → f ≡ false → g ≡ true
-last_of true b c d e f g one p q r s t u = absurd cc
-last_of false true c d e f g one p q r s t u = absurd cc
-last_of false false true d e f g one p q r s t u = absurd cc
-last_of false false false true e f g one p q r s t u = absurd cc
-last_of false false false false true f g one p q r s t u = absurd cc
-last_of false false false false false true g one p q r s t u = absurd cc
-last_of false false false false false false g one p q r s t u = one
+mark_takes : (c : Cut) (y : Message × Cut) → IsBytes c.left → mark_message_at c ≡ Ok y → IsTaken 9 c y.0 y.1
+unfolding mark_message_at
+mark_takes c y bs e =
+    let b = bind_ok (signed_at marks c) (λ m. Ok (changes.Mark m.0, m.1)) y e in
+    let t = mark_part.takes c b.0 bs b.1 in
+    subst (λ (y : Message × Cut). IsTaken 9 c y.0 y.1) (ok_is (changes.Mark b.0.0, b.0.1) y b.2) ((refl, t.0), t.1)
+
+last_of : (a b c d e f g h : Bool) → (a || b || c || d || e || f || g || h) ≡ true → a ≡ false → b ≡ false → c ≡ false → d ≡ false → e ≡ false → f ≡ false → g ≡ false → h ≡ true
+last_of true b c d e f g h one p q r s t u v = absurd cc
+last_of false true c d e f g h one p q r s t u v = absurd cc
+last_of false false true d e f g h one p q r s t u v = absurd cc
+last_of false false false true e f g h one p q r s t u v = absurd cc
+last_of false false false false true f g h one p q r s t u v = absurd cc
+last_of false false false false false true g h one p q r s t u v = absurd cc
+last_of false false false false false false true h one p q r s t u v = absurd cc
+last_of false false false false false false false h one p q r s t u v = one
 
 body_takes : (k : ℕ) → is_kind k ≡ true → (c : Cut) (y : Message × Cut) → IsBytes c.left → body_at k c ≡ Ok y → IsTaken k c y.0 y.1
 unfolding body_at
@@ -133,12 +144,13 @@ body_takes k known c y bs e =
     picked (eqb k 4) k 4 _ _ y refl e4 (λ same one. subst (λ (k : ℕ). IsTaken k c y.0 y.1) (sym same) (stop_takes c y bs one)) λ n4 e5.
     picked (eqb k 5) k 5 _ _ y refl e5 (λ same one. subst (λ (k : ℕ). IsTaken k c y.0 y.1) (sym same) (stop_data_takes c y bs one)) λ n5 e6.
     picked (eqb k 6) k 6 _ _ y refl e6 (λ same one. subst (λ (k : ℕ). IsTaken k c y.0 y.1) (sym same) (sync_takes c y bs one)) λ n6 e7.
+    picked (eqb k 8) k 8 _ _ y refl e7 (λ same one. subst (λ (k : ℕ). IsTaken k c y.0 y.1) (sym same) (reply_takes c y bs one)) λ n7 e8.
     subst (λ (k : ℕ). IsTaken k c y.0 y.1)
-    (sym (eqb-true k 8 (last_of (eqb k 1) (eqb k 2) (eqb k 3) (eqb k 4) (eqb k 5) (eqb k 6) (eqb k 8) known n1 n2 n3 n4 n5 n6)))
-    (reply_takes c y bs e7)
+    (sym (eqb-true k 9 (last_of (eqb k 1) (eqb k 2) (eqb k 3) (eqb k 4) (eqb k 5) (eqb k 6) (eqb k 8) (eqb k 9) known n1 n2 n3 n4 n5 n6 n7)))
+    (mark_takes c y bs e8)
 
 content_again : (c : Cut) (m : Message) (d : Cut) → FitsContent m → Spelled c (content m) d → body_at (kind m) c ≡ Ok (m, d)
-unfolding body_at ask_at propose_at vote_at stop_message_at stop_data_at sync_message_at reply_at
+unfolding body_at ask_at propose_at vote_at stop_message_at stop_data_at sync_message_at reply_at mark_message_at
 content_again c (Ask a) d h s = bind_is (signed_at requests c) (λ a. Ok (Ask a.0, a.1)) (a, d) (ask_law.again c a d h s)
 content_again c (Vote a) d h s = bind_is (signed_at ballots c) (λ a. Ok (Vote a.0, a.1)) (a, d) (vote_law.again c a d h s)
 content_again c (Reply a) d h s = bind_is (signed_at answers c) (λ a. Ok (Reply a.0, a.1)) (a, d) (reply_law.again c a d h s)
@@ -150,6 +162,7 @@ content_again c (Propose p) d h s =
     (batch_law.again m p.batch d h.1 (spelled-back c (signed proposals p.head) (batch_text p.batch) d s))
 content_again c (changes.Stop s) d h p = bind_is (signed_at stops c) (λ s. Ok (changes.Stop s.0, s.1)) (s, d) (stop_part.again c s d h p)
 content_again c (changes.Sync s) d h p = bind_is (signed_at syncs c) (λ s. Ok (changes.Sync s.0, s.1)) (s, d) (sync_part.again c s d h p)
+content_again c (changes.Mark m) d h p = bind_is (signed_at marks c) (λ m. Ok (changes.Mark m.0, m.1)) (m, d) (mark_part.again c m d h p)
 content_again c (changes.StopData r) d h p =
     let m = middle c (signed reports r.head) (optional batch_text r.batch) d in
     bind_is (signed_at reports c) (λ r. optional_at (batch_at requests) r.1 >>= λ b. Ok (changes.StopData (record { head = r.0; batch = b.0 }), b.1))
@@ -166,6 +179,7 @@ kind_fits (changes.Stop s) = (omega arith, refl)
 kind_fits (changes.StopData r) = (omega arith, refl)
 kind_fits (changes.Sync s) = (omega arith, refl)
 kind_fits (Reply s) = (omega arith, refl)
+kind_fits (changes.Mark m) = (omega arith, refl)
 
 body_law : (k : ℕ) → (k < 2 ^ 8) × (is_kind k ≡ true) → Law (λ m. (Unit {0} × (kind m ≡ k)) × FitsContent m) content (body_at k)
 body_law k h = record {

@@ -11,7 +11,7 @@ use Rattle.smart_statements.specs.Kinds.{proposals, ballots, answers, requests}
 use Rattle.smart_statements.specs.Spelling.{signed, FitsSigned, FitsProposal, FitsBallot, FitsAnswer, FitsRequest}
 use Rattle.smart_statements.specs.Reading.{signed_at, batch_at}
 use Rattle.smart_statements.specs.SignedLists.{optional, FitsOptional, optional_at}
-use Rattle.smart_statements.specs.Reports.{reports, FitsReport, marks}
+use Rattle.smart_statements.specs.Reports.{reports, FitsReport, marks, FitsMark}
 use Rattle.smart_statements.specs.declared.statement.Request.{Request}
 use Rattle.smart_statements.specs.declared.statement.Slot.{Slot}
 use Rattle.smart_statements.specs.declared.statement.Ballot.{Ballot}
@@ -44,6 +44,7 @@ kind (changes.Stop s) = 4
 kind (changes.StopData r) = 5
 kind (changes.Sync s) = 6
 kind (Reply r) = 8
+kind (changes.Mark m) = 9
 
 -- the bytes of a message after the first one
 abbrev pub content : Message → List ℕ
@@ -54,6 +55,7 @@ content (changes.Stop s) = signed stops s
 content (changes.StopData r) = signed reports r.head ++ optional batch_text r.batch
 content (changes.Sync s) = signed syncs s
 content (Reply r) = signed answers r
+content (changes.Mark m) = signed marks m
 
 -- the bytes of a message: it has one spelling
 unfoldable pub spelling : Message → List ℕ
@@ -69,6 +71,7 @@ FitsContent (changes.Stop s) = FitsSigned stops (λ signer. FitsStop) s
 FitsContent (changes.StopData r) = FitsSigned reports (λ signer. FitsReport) r.head × FitsOptional FitsBatch r.batch
 FitsContent (changes.Sync s) = FitsSigned syncs (λ signer. FitsSync) s
 FitsContent (Reply r) = FitsSigned answers (λ signer. FitsAnswer) r
+FitsContent (changes.Mark m) = FitsSigned marks (λ signer. FitsMark) m
 
 -- a message that has bytes: each field is within its limits, and all are at most 1,048,576 bytes
 pub record Fits (m : Message) : Type 0 where
@@ -114,6 +117,11 @@ reply_at c = do
   r ← signed_at answers c
   Ok (Reply r.0, r.1)
 
+unfoldable pub mark_message_at : Cut → Read Message
+mark_message_at c = do
+  m ← signed_at marks c
+  Ok (changes.Mark m.0, m.1)
+
 unfoldable pub body_at : ℕ → Cut → Read Message
 body_at kind c =
     if kind == 1 then ask_at c
@@ -122,11 +130,12 @@ body_at kind c =
     else if kind == 4 then stop_message_at c
     else if kind == 5 then stop_data_at c
     else if kind == 6 then sync_message_at c
-    else reply_at c
+    else if kind == 8 then reply_at c
+    else mark_message_at c
 
 -- a byte with which a message begins
 abbrev pub is_kind : ℕ → Bool
-is_kind k = k == 1 || k == 2 || k == 3 || k == 4 || k == 5 || k == 6 || k == 8
+is_kind k = k == 1 || k == 2 || k == 3 || k == 4 || k == 5 || k == 6 || k == 8 || k == 9
 
 abbrev pub message_kind_at : Cut → Read ℕ
 message_kind_at = ranged is_kind (number_at w8)
@@ -151,6 +160,7 @@ request_in (changes.Stop s) = None
 request_in (changes.StopData r) = None
 request_in (changes.Sync s) = None
 request_in (Reply a) = None
+request_in (changes.Mark m) = None
 
 -- the PROPOSE that a message is, if it is one
 abbrev pub proposal_in : Message → Option proposed.Proposed
@@ -161,6 +171,7 @@ proposal_in (changes.Stop s) = None
 proposal_in (changes.StopData r) = None
 proposal_in (changes.Sync s) = None
 proposal_in (Reply a) = None
+proposal_in (changes.Mark m) = None
 
 -- the vote that a message is, if it is one
 abbrev pub vote_in : Message → Option (SignedBy Ballot)
@@ -171,6 +182,7 @@ vote_in (changes.Stop s) = None
 vote_in (changes.StopData r) = None
 vote_in (changes.Sync s) = None
 vote_in (Reply a) = None
+vote_in (changes.Mark m) = None
 
 -- the STOP that a message is, if it is one
 abbrev pub stop_in : Message → Option (SignedBy Stop)
@@ -181,6 +193,7 @@ stop_in (changes.Stop s) = Some s
 stop_in (changes.StopData r) = None
 stop_in (changes.Sync s) = None
 stop_in (Reply a) = None
+stop_in (changes.Mark m) = None
 
 -- the STOPDATA that a message is, if it is one
 abbrev pub report_in : Message → Option reported.Reported
@@ -191,6 +204,7 @@ report_in (changes.Stop s) = None
 report_in (changes.StopData r) = Some r
 report_in (changes.Sync s) = None
 report_in (Reply a) = None
+report_in (changes.Mark m) = None
 
 -- the SYNC that a message is, if it is one
 abbrev pub sync_in : Message → Option (SignedBy Sync)
@@ -201,6 +215,7 @@ sync_in (changes.Stop s) = None
 sync_in (changes.StopData r) = None
 sync_in (changes.Sync s) = Some s
 sync_in (Reply a) = None
+sync_in (changes.Mark m) = None
 
 -- the reply that a message is, if it is one
 abbrev pub reply_in : Message → Option (SignedBy Answer)
@@ -211,6 +226,7 @@ reply_in (changes.Stop s) = None
 reply_in (changes.StopData r) = None
 reply_in (changes.Sync s) = None
 reply_in (Reply a) = Some a
+reply_in (changes.Mark m) = None
 
 -- the slot of a PROPOSE or of a vote
 abbrev pub slot_of : Message → Option Slot
@@ -221,6 +237,7 @@ slot_of (changes.Stop s) = None
 slot_of (changes.StopData r) = None
 slot_of (changes.Sync s) = None
 slot_of (Reply a) = None
+slot_of (changes.Mark m) = None
 
 -- the batch of a PROPOSE, or of the lock in a STOPDATA
 abbrev pub batch_in : Message → Option Batch
@@ -231,6 +248,7 @@ batch_in (changes.Stop s) = None
 batch_in (changes.StopData r) = r.batch
 batch_in (changes.Sync s) = None
 batch_in (Reply a) = None
+batch_in (changes.Mark m) = None
 
 -- a value that is there and passes a test
 abbrev pub some_of : {A : Type 0} → (A → Bool) → Option A → Bool
@@ -313,6 +331,7 @@ head (changes.Stop s) = Stopped s
 head (changes.StopData r) = Reported r.head
 head (changes.Sync s) = Synced s
 head (Reply a) = Replied a
+head (changes.Mark m) = Marked m
 
 -- the statements that a message makes itself: its own, and the requests of its batch
 abbrev pub said : Message → List Statement

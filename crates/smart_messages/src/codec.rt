@@ -9,7 +9,7 @@ ghost use Rattle.smart_statements.specs.Reading.{batch_at};
 ghost use Rattle.smart_statements.specs.Reports.{reports};
 ghost use Rattle.smart_statements.specs.SignedLists.{optional, optional_at};
 ghost use Rattle.smart_statements.specs.Spelling.{signed};
-ghost use Rattle.smart_messages.specs.Messages.{Fits, kind, content, spelling, ask_at, propose_at, vote_at, stop_message_at, stop_data_at, sync_message_at, reply_at, body_at, is_kind, message_kind_at, message_at, decoded};
+ghost use Rattle.smart_messages.specs.Messages.{Fits, kind, content, spelling, ask_at, propose_at, vote_at, stop_message_at, stop_data_at, sync_message_at, reply_at, mark_message_at, body_at, is_kind, message_kind_at, message_at, decoded};
 
 use crate::message::{Message, Proposed};
 use crate::regency::{Reported, Stop, Sync};
@@ -19,7 +19,7 @@ use smart_base::field::put_u8;
 use smart_base::limits::MESSAGE_BYTES;
 use smart_statements::batch::Batch;
 use smart_statements::optional::take_flag;
-use smart_statements::report::Report;
+use smart_statements::report::{Mark, Report};
 use smart_statements::signed::Signed;
 use smart_statements::statement::{Answer, Ballot, Proposal, Request};
 use std::alloc::{AllocError, Global};
@@ -87,6 +87,13 @@ fn read_reply(alloc: Global, cut: &mut Cursor<'_>) -> Result<Message, ReadError>
     Ok(Message::Reply(Signed::<Answer>::read(alloc, cut)?))
 }
 
+#[tactic(auto, unfolding(crate::specs::Messages::mark_message_at))]
+fn read_mark(alloc: Global, cut: &mut Cursor<'_>) -> Result<Message, ReadError>
+    ensures { Gives result cut.new (mark_message_at cut.old) }
+{
+    Ok(Message::Mark(Signed::<Mark>::read(alloc, cut)?))
+}
+
 /// Reads what comes after a message's first byte.
 #[tactic(auto, unfolding(crate::specs::Messages::body_at))]
 fn read_body(alloc: Global, kind: u8, cut: &mut Cursor<'_>) -> Result<Message, ReadError>
@@ -99,7 +106,8 @@ fn read_body(alloc: Global, kind: u8, cut: &mut Cursor<'_>) -> Result<Message, R
         4 => read_stop(alloc, cut),
         5 => read_stop_data(alloc, cut),
         6 => read_sync(alloc, cut),
-        _ => read_reply(alloc, cut),
+        8 => read_reply(alloc, cut),
+        _ => read_mark(alloc, cut),
     }
 }
 
@@ -107,7 +115,14 @@ fn read_body(alloc: Global, kind: u8, cut: &mut Cursor<'_>) -> Result<Message, R
 fn is_message_kind(kind: u8) -> bool
     ensures { result ≡ is_kind kind }
 {
-    kind == 1 || kind == 2 || kind == 3 || kind == 4 || kind == 5 || kind == 6 || kind == 8
+    kind == 1
+        || kind == 2
+        || kind == 3
+        || kind == 4
+        || kind == 5
+        || kind == 6
+        || kind == 8
+        || kind == 9
 }
 
 #[tactic(auto, unfolding(smart_base::specs::Cuts::ranged))]
@@ -181,6 +196,7 @@ fn kind(message: &Message) -> u8
         Message::StopData(_) => 5,
         Message::Sync(_) => 6,
         Message::Reply(_) => 8,
+        Message::Mark(_) => 9,
     }
 }
 
@@ -231,6 +247,7 @@ fn put_content(out: &mut Vec<u8>, message: &Message) -> Result<(), AllocError>
         Message::StopData(reported) => put_reported(out, reported),
         Message::Sync(sync) => sync.put(out),
         Message::Reply(reply) => reply.put(out),
+        Message::Mark(mark) => mark.put(out),
     }
 }
 

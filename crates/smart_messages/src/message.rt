@@ -11,7 +11,7 @@ use smart_base::duplicate::Duplicate;
 use smart_base::party::Party;
 use smart_base::sequence::{Bytes, Sequence};
 use smart_statements::batch::Batch;
-use smart_statements::report::{Evidence, LockCertificate, Report};
+use smart_statements::report::{Evidence, LockCertificate, Mark, Report};
 use smart_statements::signed::{Signed, Statement};
 use smart_statements::statement::{Answer, Ballot, Proposal, Request, Slot};
 use std::alloc::{AllocError, Global};
@@ -40,6 +40,9 @@ pub enum Message {
     Sync(Signed<Sync>),
     /// REPLY: a member answers a client.
     Reply(Signed<Answer>),
+    /// MARK: a member states the digest of its replica after a place (checkpoints in turn:
+    /// Dura-SMaRt, USENIX ATC 2013).
+    Mark(Signed<Mark>),
 }
 
 impl Duplicate for Proposed {
@@ -61,6 +64,7 @@ impl Duplicate for Message {
             Message::StopData(reported) => Ok(Message::StopData(reported.duplicate(alloc)?)),
             Message::Sync(sync) => Ok(Message::Sync(sync.duplicate(alloc)?)),
             Message::Reply(reply) => Ok(Message::Reply(reply.duplicate(alloc)?)),
+            Message::Mark(mark) => Ok(Message::Mark(mark.duplicate(alloc)?)),
         }
     }
 }
@@ -264,6 +268,7 @@ fn stand_all(
             Ok(())
         }
         Message::Reply(answer) => stand(alloc, answer, found),
+        Message::Mark(mark) => stand(alloc, mark, found),
     }
 }
 

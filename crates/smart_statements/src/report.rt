@@ -19,7 +19,7 @@ use smart_base::number::{Place, Regency, ViewNo};
 use std::alloc::{AllocError, Global};
 
 /// A mark: the digest of a member's snapshot after a place (Dura-SMaRt, USENIX ATC 2013; the
-/// signature is this project's own). INTERIM(checkpoints): nobody makes one.
+/// signature is this project's own).
 #[derive(Drop)]
 pub struct Mark {
     pub place: Place,

@@ -4,7 +4,7 @@ ghost use Rattle.std.specs.List.{flat_map};
 ghost use Rattle.std.specs.Option.{option_and_then};
 ghost use Rattle.smart_base.specs.declared.limits.TheConstants.{BATCH_REQUESTS};
 ghost use Rattle.smart_statements.specs.Kinds.{requests, proposals, ballots};
-ghost use Rattle.smart_statements.specs.Reports.{reports};
+ghost use Rattle.smart_statements.specs.Reports.{reports, marks};
 ghost use Rattle.smart_messages.specs.Messages.{spelling};
 ghost use Rattle.smart_statements.specs.Spelling.{signed as signed_text};
 ghost use Rattle.replica_rules.specs.Seals.{signed, digest_of};
@@ -32,7 +32,7 @@ use smart_messages::party::party_of;
 use smart_messages::regency::{Reported, Stop, Sync};
 use smart_statements::batch::Batch;
 use smart_statements::optional::duplicate_optional;
-use smart_statements::report::{Evidence, LockCertificate, Report};
+use smart_statements::report::{Evidence, LockCertificate, Mark, Report};
 use smart_statements::signed::{Signed, Statement};
 use smart_statements::signed_list::SignedList;
 use smart_statements::statement::{Ballot, Proposal, Request, Slot, VoteKind};
@@ -207,6 +207,7 @@ pub fn is_injectable(sent: &[Sent], form: &Injection) -> bool
         Injection::Ask { .. }
         | Injection::Stop { .. }
         | Injection::Reply { .. }
+        | Injection::Mark { .. }
         | Injection::Raw { .. } => true,
         Injection::Propose { asks, .. } => is_proposable(sent, asks.as_slice()),
         Injection::Vote { proposal, .. } => batch_at(sent, *proposal).is_some(),
@@ -390,6 +391,20 @@ fn stop_bytes(
     spelled(alloc, Message::Stop(signed))
 }
 
+fn mark_bytes(
+    alloc: Global,
+    ring: &Ring,
+    signer: MemberId,
+    place: Place,
+    digest: Digest32,
+) -> Result<Option<Bytes>, AllocError>
+    requires { ring.now ≡ group_secret }
+    ensures { IfOk result (λ bytes. bytes ≡ Some (spelling (changes.Mark (signed marks group_secret signer (record { place = place; digest = digest }))))) }
+{
+    let signed = sealed(alloc, ring, signer.get(), Mark { place, digest })?;
+    spelled(alloc, Message::Mark(signed))
+}
+
 /// The lock of a report, and its batch: none, or those of the report of a number.
 fn locked_at(alloc: Global, sent: &[Sent], lock: Option<u64>) -> Result<Option<Locked>, AllocError>
     ensures { IfOk result (λ locked. option_map locked_of locked ≡ locked_at sent.now lock) }
@@ -570,6 +585,11 @@ fn injected_bytes(
             let signed = sealed(alloc, ring, signer.get(), answer.duplicate(alloc)?)?;
             spelled(alloc, Message::Reply(signed))
         }
+        Injection::Mark {
+            signer,
+            place,
+            digest,
+        } => mark_bytes(alloc, ring, *signer, *place, *digest),
         Injection::Raw { bytes } => Ok(Some(bytes.duplicate(alloc)?)),
     }
 }

@@ -9,10 +9,13 @@ use Rattle.smart_messages.specs.Messages.{spelling, Fits, decoded, FitsContent, 
 use Rattle.smart_messages.specs.declared.message.Message.{Message}
 use Rattle.smart_statements.specs.Spelling.{IsSigner, FitsRequest}
 use Rattle.smart_statements.specs.Spelling as spells
+use Rattle.smart_statements.specs.Reports as spells_report
+use Rattle.smart_statements.specs.Reports.{marks}
 use Rattle.smart_messages.proofs.Messages.{spelling_is}
 use Rattle.smart_statements.specs.declared.statement.Request.{Request}
 use Rattle.smart_statements.specs.declared.statement.Answer.{Answer}
 use Rattle.smart_messages.specs.declared.message.Message.TheVariants.{Reply, Ask, Propose, Vote}
+use Rattle.smart_messages.specs.declared.message.Message.TheVariants as changes
 use Rattle.smart_statements.specs.declared.entry.NodeEvent.{NodeEvent}
 use Rattle.smart_statements.specs.declared.entry.NodeEvent.TheVariants.{Arrive, Tick, Deliver, Firm}
 use Rattle.smart_service.specs.Services.{Meaning}
@@ -304,6 +307,10 @@ ordering-short (Reply a) fits is =
     let long = signed-length answers a in
     let text : length (spells.answer a.statement) ≡ 29 + length a.statement.reply = omega arith in
     omega (arith, long, text, fits.statement_fits.reply_fits, fits.tag_fits)
+ordering-short (changes.Mark m) fits is =
+    let long = signed-length marks m in
+    let text : length (spells_report.mark m.statement) ≡ 9 + length m.statement.digest = omega arith in
+    omega (arith, long, text, fits.statement_fits.digest_fits, fits.tag_fits)
 ordering-short _ fits is = absurd (cc)
 
 -- so it is read

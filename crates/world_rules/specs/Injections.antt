@@ -6,7 +6,7 @@ use Rattle.smart_base.specs.declared.limits.TheConstants.{BATCH_BYTES, BATCH_REQ
 use Rattle.smart_statements.specs.Forms.{SignedBy}
 use Rattle.smart_statements.specs.Kinds.{requests, proposals, ballots, answers}
 use Rattle.smart_statements.specs.Batches.{Batch, batch_text}
-use Rattle.smart_statements.specs.Reports.{reports}
+use Rattle.smart_statements.specs.Reports.{reports, marks}
 use Rattle.smart_messages.specs.Regencies.{stops, syncs}
 use Rattle.smart_messages.specs.Messages.{spelling, decoded, request_in, proposal_in, report_in}
 use Rattle.smart_statements.specs.declared.report.Evidence.TheVariants as evidence
@@ -117,6 +117,8 @@ injected_bytes sent (forms.StopData signer view regency (Some decision) lock) = 
 injected_bytes sent (forms.Sync signer view regency numbers) =
     if nat_lt (length numbers) (2 ^ 16) then option_and_then (sync_bytes signer view regency) (reports_at sent numbers) else None
 injected_bytes sent (forms.Reply signer answer) = Some (spelling (Reply (signed answers group_secret signer answer)))
+injected_bytes sent (forms.Mark signer place digest) =
+    Some (spelling (changes.Mark (signed marks group_secret signer (record { place = place; digest = digest }))))
 injected_bytes sent (forms.Raw bytes) = Some bytes
 
 -- the message that bytes spell, or else the bytes

@@ -416,6 +416,27 @@ reply_form bytes words =
     (numbers_in (members ∷ small_numbers ∷ places ∷ range 0 65535 ∷ range 1 LAST_CLIENT ∷ places ∷ []) words)
     else Err kinds.Count
 
+-- a digest of 32 bytes, by pairs of digits
+abbrev pub digest_by : Option (List ℕ) → Option (List ℕ)
+digest_by None = None
+digest_by (Some bytes) = if length bytes == 32 then Some bytes else None
+
+abbrev pub mark_with : List ℕ → Option (List ℕ) → Result Injection Kind
+mark_with ns None = Err kinds.Form
+mark_with ns (Some digest) = Ok (forms.Mark (nth ns 0) (nth ns 1) digest)
+
+-- HEX64
+abbrev pub mark_behind : List ℕ → List (List ℕ) → Result Injection Kind
+mark_behind ns [] = Err kinds.Count
+mark_behind ns (word ∷ words) = mark_with ns (digest_by (hex_bytes word))
+
+-- mark S K HEX64
+abbrev pub mark_form : List (List ℕ) → Result Injection Kind
+mark_form words =
+    if length words == 3
+    then form_of (λ ns. mark_behind ns (drop 2 words)) (numbers_in (members ∷ places ∷ []) words)
+    else Err kinds.Count
+
 -- raw HEX: one byte or more
 abbrev pub raw_by : Option (List ℕ) → Result Injection Kind
 raw_by None = Err kinds.Form
@@ -439,6 +460,7 @@ form_by bytes (word ∷ words) =
     else if same_bytes word (codes "stopdata") then stopdata_form words
     else if same_bytes word (codes "sync") then sync_form words
     else if same_bytes word (codes "reply") then reply_form bytes words
+    else if same_bytes word (codes "mark") then mark_form words
     else if same_bytes word (codes "raw") then raw_form words
     else Err kinds.Word
 

@@ -4,7 +4,7 @@ use crate::message::Origin;
 use client_quorum::client::Ignored;
 use message_words::words::Summary;
 use node_rules::node::Why;
-use smart_base::bytes::Payload;
+use smart_base::bytes::{Digest32, Payload};
 use smart_base::name::{ClientId, MemberId};
 use smart_base::number::{Place, Regency, ViewNo};
 use smart_base::party::Party;
@@ -149,6 +149,12 @@ pub enum Injection {
     Reply {
         signer: MemberId,
         answer: Answer,
+    },
+    /// `mark S K HEX64`: a MARK of a digest at a place.
+    Mark {
+        signer: MemberId,
+        place: Place,
+        digest: Digest32,
     },
     /// `raw HEX`: these bytes.
     Raw {

@@ -1,6 +1,6 @@
 //! The forms of what a script injects.
-ghost use Rattle.std.specs.Prelude.{◌≡◌, ◌<◌, ◌^◌, IfOk};
-ghost use Rattle.world_rules.specs.Scripts.{ask_form, propose_form, vote_form, stop_form, message_or_none, stopdata_by, stopdata_form, sync_form, reply_form, raw_form, form_by};
+ghost use Rattle.std.specs.Prelude.{◌≡◌, ◌<◌, ◌^◌, IfOk, Some};
+ghost use Rattle.world_rules.specs.Scripts.{ask_form, propose_form, vote_form, stop_form, message_or_none, stopdata_by, stopdata_form, sync_form, reply_form, hex_bytes, digest_by, mark_form, raw_form, form_by};
 
 use crate::hex::hex_bytes;
 use crate::numbers::{
@@ -8,6 +8,7 @@ use crate::numbers::{
     numbers_in,
 };
 use crate::words::{Words, behind_spaces, payload_of};
+use smart_base::bytes::Digest32;
 use smart_base::equality::same_bytes;
 use smart_base::limits::BATCH_REQUESTS;
 use smart_base::name::{ClientId, MemberId};
@@ -216,6 +217,52 @@ fn reply_form(
     Ok(Ok(Injection::Reply { signer, answer }))
 }
 
+/// The digest that bytes are, if there are 32 of them.
+fn digest_of(bytes: &[u8]) -> Option<Digest32>
+    ensures { result ≡ digest_by (Some bytes.now) }
+{
+    if bytes.len() != 32 {
+        return None;
+    }
+    let mut digest = [0; 32];
+    digest.copy_from_slice(bytes);
+    Some(Digest32::new(digest))
+}
+
+/// The digest that a word's digits are, if they are 64.
+fn digest_by(alloc: Global, word: &[u8]) -> Result<Option<Digest32>, AllocError>
+    ensures { IfOk result (λ digest. digest ≡ digest_by (hex_bytes word.now)) }
+{
+    match hex_bytes(alloc, word)? {
+        None => Ok(None),
+        Some(bytes) => Ok(digest_of(bytes.as_slice())),
+    }
+}
+
+/// `S K HEX64`.
+fn mark_form(alloc: Global, mut words: Words<'_>) -> Result<Result<Injection, Kind>, AllocError>
+    ensures { IfOk result (λ form. form ≡ mark_form words.entry) }
+{
+    if words.count() != 3 {
+        return Ok(Err(Kind::Count));
+    }
+    let Some(numbers) = numbers_in(&[MEMBERS, PLACES], &mut words) else {
+        return Ok(Err(Kind::Number));
+    };
+    let [signer, place] = numbers;
+    let Some((word, _)) = words.split_first() else {
+        return Ok(Err(Kind::Count));
+    };
+    let Some(digest) = digest_by(alloc, word)? else {
+        return Ok(Err(Kind::Form));
+    };
+    Ok(Ok(Injection::Mark {
+        signer: MemberId::new(signer as u16),
+        place: Place::new(place),
+        digest,
+    }))
+}
+
 /// `HEX`: one byte or more.
 fn raw_form(alloc: Global, words: Words<'_>) -> Result<Result<Injection, Kind>, AllocError>
     ensures { IfOk result (λ form. form ≡ raw_form words.entry) }
@@ -259,6 +306,8 @@ pub fn form_by(
         sync_form(alloc, words)
     } else if same_bytes(word, b"reply") {
         reply_form(alloc, bytes, words)
+    } else if same_bytes(word, b"mark") {
+        mark_form(alloc, words)
     } else if same_bytes(word, b"raw") {
         raw_form(alloc, words)
     } else {
