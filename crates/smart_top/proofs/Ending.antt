@@ -19,6 +19,7 @@ use Rattle.smart_top.specs.declared.status.Refusal.{Refusal}
 use Rattle.smart_top.specs.declared.status.Refusal.TheVariants as refusals
 use Rattle.smart_top.specs.declared.reader.Halt.{Halt}
 use Rattle.smart_top.specs.declared.reader.Halt.TheVariants as halts
+use Rattle.smart_top.specs.declared.status.Status.TheVariants as ends
 use Rattle.smart_top.specs.Apps.{core_courses, node_courses}
 use Rattle.smart_top.specs.Readings.{Reading, unread, whole_lines, rest_of, script_lines, reading_after, told_after, script_read, end_of, last_told, end_by, refused_end, transcript}
 use Rattle.smart_top.specs.Feeds.{text_after, script_after, Closes, HasRefused, HasBroken, HasTold, Within, Halted, GoesOn, halt_end}
@@ -257,3 +258,21 @@ read-unread left left' written now bytes line script g =
     let some = input_of left left' bytes g.consumed in
     let front = lines-front bytes some.0 in
     told-lines left written now bytes (bytes ++ some.0) (record { more = front.0; split = front.1 }) some.1 (record { text = g.taken.text })
+
+-- the input that a source has left
+left_of : (left : Option (List ℕ)) → (input : List ℕ) × IsLeft left input
+left_of None = ([], tt)
+left_of (Some xs) = (xs, refl)
+
+appends-nothing : (written : Option (List ℕ)) → Appends written written []
+appends-nothing None = tt
+appends-nothing (Some xs) = sym (append-nil xs)
+
+-- a run that wanted memory before it read anything
+unread_end : (left written : Option (List ℕ)) → WroteLines left written written
+unread_end left written =
+    let some = left_of left in
+    told-lines left written written [] some.0 (record { more = script_lines some.0; split = refl }) some.1 (record { text = appends-nothing written })
+
+pub unread_run : (left written : Option (List ℕ)) (wants : ℕ) → RunEnd left left written written wants wants ends.NoMemory
+unread_run left written wants = inl (unread_end left written)

@@ -1,6 +1,5 @@
 -- What a run of `world` has read and written, by its status.
-use Rattle.smart_base.specs.Lists.{same_bytes}
-use Rattle.std.specs.Prelude.{Bool, false, ◌∷◌, codes, ℕ, ◌≡◌, List, [], ◌++◌, Option, Some, None, take, ◌⊎◌}
+use Rattle.std.specs.Prelude.{◌∷◌, ℕ, ◌≡◌, List, [], ◌++◌, Option, Some, None, take, ◌⊎◌}
 use Rattle.std.specs.Io.KnownBytes.{Appends, Consumes, IsAtEnd}
 use Rattle.faults.specs.Counts.{Rose}
 use Rattle.smart_service.specs.Services.{Meaning}
@@ -103,9 +102,3 @@ RunEnd left left' written written' wants wants' ends.WriteFault = WroteFront lef
 RunEnd left left' written written' wants wants' (ends.Premise line which) = Ends left written written' (ends.Premise line which)
 RunEnd left left' written written' wants wants' (ends.Limit line) = Ends left written written' (ends.Limit line)
 RunEnd left left' written written' wants wants' ends.NoMemory = WroteLines left written written' ⊎ (Rose wants wants' × WroteFront left written written')
-
--- words that are the one command: `world`
-abbrev pub is_command : List (List ℕ) → Bool
-is_command [] = false
-is_command (word ∷ []) = same_bytes word (codes "world")
-is_command (word ∷ next ∷ words) = false

@@ -1,19 +1,20 @@
 //! The top call.
-ghost use Rattle.std.specs.Prelude.{◌≡◌, ◌<◌, ◌≤◌, ◌++◌, ◌↔◌, length, List, ℕ, IsTrue, IsErrOf, IfErr, IfOk, Option, None, [], true, false, map, string_bytes};
+ghost use Rattle.std.specs.Prelude.{◌≡◌, ◌<◌, ◌≤◌, ◌++◌, ◌⊎◌, length, Some, List, ℕ, IsTrue, IsErrOf, IfErr, IfOk, Option, None, [], true, false, map, string_bytes};
 ghost use Rattle.std.specs.Io.KnownBytes.{IsAtEnd};
 ghost use Rattle.faults.specs.Counts.{Rose};
 ghost use Rattle.smart_top.specs.Apps.{core_courses};
 ghost use Rattle.smart_top.specs.Readings.{end_of, script_lines, whole_lines};
 ghost use Rattle.smart_top.specs.Feeds.{HasTaken, GoesOn, GoesOnBehind, halt_end};
-ghost use Rattle.smart_top.specs.Runs.{IsLeft, RunEnd, is_command};
+ghost use Rattle.smart_top.specs.Runs.{IsLeft, RunEnd};
+ghost use Rattle.command_words.specs.Commands.{command_of};
 
 use crate::reader::{Halt, Reader, end_line, feed, write_lines};
 use crate::script::Script;
 use crate::status::{Refusal, Status, report};
+use command_words::command::{Command, NoCommand, read_words};
 use faults::Fault;
-use smart_base::equality::same_bytes;
 use smart_base::sequence::Sequence;
-use smart_io::stream::{Sink, Source};
+use smart_io::stream::{Sink, Source, write_all};
 use std::alloc::Global;
 
 /// The number of bytes that are read at a time.
@@ -49,16 +50,6 @@ fn halt_end(script: &Script, halt: Halt) -> Status
         Halt::Refused => script_end(script),
         Halt::WriteFault => Status::WriteFault,
         Halt::SinkMemory | Halt::NoMemory => Status::NoMemory,
-    }
-}
-
-/// Whether a program's words are the command `world`.
-pub fn is_command(words: &[String]) -> bool
-    ensures { result ≡ is_command (map string_bytes words.now) }
-{
-    match words {
-        [word] => same_bytes(word.as_bytes(), b"world"),
-        _ => false,
     }
 }
 
@@ -154,8 +145,36 @@ pub fn play_script<I: Source, O: Sink>(alloc: Global, input: &mut I, output: &mu
     unreachable!()
 }
 
+/// Does what the words say, and writes to `errors` what the parser shows of words that are no command.
+#[tactic(auto, using(crate::proofs::Ending::unread_run))]
+fn obey<I: Source, O: Sink, E: Sink>(
+    alloc: Global,
+    words: &[String],
+    input: &mut I,
+    output: &mut O,
+    errors: &mut E,
+) -> Status
+    ensures words { result ≡ Status.Words → command_of (map string_bytes words.now) ≡ None }
+    ensures none { command_of (map string_bytes words.now) ≡ None → (result ≡ Status.Words) ⊎ (result ≡ Status.NoMemory) }
+    ensures untouched { command_of (map string_bytes words.now) ≡ None → (input.new ≡ input.old) × (output.new ≡ output.old) }
+    ensures ended { command_of (map string_bytes words.now) ≡ Some Command.World → RunEnd (I.left input.old) (I.left input.new) (O.written output.old) (O.written output.new) (O.wants output.old) (O.wants output.new) result }
+    ensures read { result ≡ Status.ReadFault → Rose (I.faults input.old) (I.faults input.new) }
+    ensures write { result ≡ Status.WriteFault → Rose (O.faults output.old) (O.faults output.new) }
+{
+    match read_words(alloc, words) {
+        Ok(Command::World) => play_script(alloc, input, output),
+        Err(NoCommand::Shown(text)) => {
+            let _ = write_all(errors, text.as_bytes());
+            Status::Words
+        }
+        Err(NoCommand::Wrong) => Status::Words,
+        Err(NoCommand::NoMemory) => Status::NoMemory,
+    }
+}
+
 /// Runs the program. `world` reads a script from the input and writes its transcript to the output.
 /// For each status other than `Ok` a line is written to `errors`; a failure there changes nothing.
+/// Before it stands what the parser shows of words that ask for help or for the version, or of none.
 ///
 /// A script may deliver messages in any order, lose them and repeat them. It may let time pass at any
 /// member, change the regency, and declare up to f members faulty and any clients rogue. It may crash
@@ -182,20 +201,18 @@ pub fn run<H, I: Source, O: Sink, E: Sink>(
     output: &mut O,
     errors: &mut E,
 ) -> Status
-    // The status `Words`: the words are no command. Nothing is read or written then.
-    ensures words { (result ≡ Status.Words) ↔ (is_command (map string_bytes words.now) ≡ false) }
-    ensures untouched { result ≡ Status.Words → (input.new ≡ input.old) × (output.new ≡ output.old) }
-    // What was read and written, by the status. One list holds of it, with crashes or without.
-    ensures ended { is_command (map string_bytes words.now) ≡ true → RunEnd (I.left input.old) (I.left input.new) (O.written output.old) (O.written output.new) (O.wants output.old) (O.wants output.new) result }
+    // The status `Words`: the words are no command. Words that are none end otherwise only for want of memory.
+    ensures words { result ≡ Status.Words → command_of (map string_bytes words.now) ≡ None }
+    ensures none { command_of (map string_bytes words.now) ≡ None → (result ≡ Status.Words) ⊎ (result ≡ Status.NoMemory) }
+    // Nothing is read or written then.
+    ensures untouched { command_of (map string_bytes words.now) ≡ None → (input.new ≡ input.old) × (output.new ≡ output.old) }
+    // What `world` has read and written, by the status. One list holds of it, with crashes or without.
+    ensures ended { command_of (map string_bytes words.now) ≡ Some Command.World → RunEnd (I.left input.old) (I.left input.new) (O.written output.old) (O.written output.new) (O.wants output.old) (O.wants output.new) result }
     // A fault of input or output: its count rose.
     ensures read { result ≡ Status.ReadFault → Rose (I.faults input.old) (I.faults input.new) }
     ensures write { result ≡ Status.WriteFault → Rose (O.faults output.old) (O.faults output.new) }
 {
-    let status = if is_command(words) {
-        play_script(alloc, input, output)
-    } else {
-        Status::Words
-    };
+    let status = obey(alloc, words, input, output, errors);
     report(alloc, errors, status);
     status
 }

@@ -96,6 +96,75 @@ fn a_fault_has_its_cause(rt: HostRuntime) {
     }
 }
 
+/// Runs the words of a row, each behind a space, over no input: how it ends, what it writes and what
+/// it says.
+fn ran(rt: &impl Abort, alloc: Global, row: &str) -> (Status, Vec<u8>, Vec<u8>) {
+    let mut words = Vec::new(alloc);
+    for word in row.split(' ').skip(1) {
+        let word = String::from_str(alloc, word).expect(rt, "there is memory");
+        words.push(word).expect(rt, "there is memory");
+    }
+    let mut input = MemSource::new(Vec::new(alloc), Vec::new(alloc));
+    let mut output = sink(alloc, Vec::new(alloc));
+    let mut errors = sink(alloc, Vec::new(alloc));
+    let status = run(
+        rt,
+        alloc,
+        words.as_slice(),
+        &mut input,
+        &mut output,
+        &mut errors,
+    );
+    (status, output.bytes, errors.bytes)
+}
+
+#[test]
+fn wrong_words_are_said_to_be_bad(rt: HostRuntime) {
+    for row in [
+        "smart ",
+        "smart word",
+        "smart World",
+        "smart world now",
+        "smart -- world",
+        "smart world -x",
+        "smart help other",
+    ] {
+        let ended = ran(&rt, rt.alloc(), row);
+        assert_eq!(rt; ended.0, Status::Words);
+        assert!(rt; ended.1.is_empty());
+        assert_eq!(rt; ended.2.as_slice(), b"smart: bad words\n".as_slice());
+    }
+}
+
+#[test]
+fn help_is_said_before_that_the_words_are_bad(rt: HostRuntime) {
+    for row in [
+        "smart",
+        "smart -h",
+        "smart --help",
+        "smart -V",
+        "smart --version",
+        "smart help",
+        "smart help world",
+        "smart world --help",
+    ] {
+        let ended = ran(&rt, rt.alloc(), row);
+        assert_eq!(rt; ended.0, Status::Words);
+        assert!(rt; ended.1.is_empty());
+        assert!(rt; ended.2.len() > 100);
+        assert!(rt; ended.2.ends_with(b"\nsmart: bad words\n"));
+    }
+}
+
+#[test]
+fn a_command_reads_its_input(rt: HostRuntime) {
+    for row in ["smart world", "smart world --"] {
+        let kind = Kind::Empty;
+        let ended = ran(&rt, rt.alloc(), row);
+        assert_eq!(rt; ended.0, Status::Script { line: 1, kind });
+    }
+}
+
 /// A text, and so often a byte behind it.
 fn long_text(rt: &impl Abort, alloc: Global, start: &[u8], count: usize, byte: u8) -> Vec<u8> {
     let mut text = copied(rt, alloc, start);
