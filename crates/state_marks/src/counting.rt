@@ -66,7 +66,8 @@ fn is_before<'a>(text: &'a [u8], other: &'a [u8]) -> bool
     text < other
 }
 
-fn is_mark_of(wanted: &Mark, member: MemberId, mark: &Signed<Mark>) -> bool
+/// Whether a mark is this member's, of the wanted place and digest.
+pub fn is_mark_of(wanted: &Mark, member: MemberId, mark: &Signed<Mark>) -> bool
     ensures { result ≡ is_mark_of wanted.now member mark.now }
 {
     mark.signer() == member.get()
@@ -80,7 +81,8 @@ fn has_marked(marks: &[Signed<Mark>], wanted: &Mark, member: MemberId) -> bool
     marks.iter().any(|mark| is_mark_of(wanted, member, mark))
 }
 
-fn count_markers(view: &View, marks: &[Signed<Mark>], wanted: &Mark) -> usize
+/// How many members of a view marked the same as this one.
+pub fn count_markers(view: &View, marks: &[Signed<Mark>], wanted: &Mark) -> usize
     ensures { result ≡ length (filter (has_marked marks.now wanted.now) view.now.members) }
 {
     view.members()

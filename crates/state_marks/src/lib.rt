@@ -3,7 +3,7 @@
 //! Dura-SMaRt's, USENIX ATC 2013; signed marks are this project's own rule).
 #![tactic(auto)]
 
-mod counting;
+pub mod counting;
 pub mod laws;
 pub mod place;
 pub mod table;
