@@ -10,14 +10,15 @@ use Rattle.smart_statements.specs.declared.statement.VoteKind.{VoteKind}
 use Rattle.smart_statements.specs.declared.statement.VoteKind.TheVariants.{Write, Accept}
 use Rattle.smart_statements.specs.declared.statement.Ballot.{Ballot}
 use Rattle.vote_book.specs.declared.entry.Start.{Start}
+use Rattle.vote_book.specs.declared.entry.Installation.{Installation}
 use Rattle.vote_book.specs.declared.entry.LogEntry.{LogEntry}
 use Rattle.vote_book.specs.declared.entry.LogEntry.TheVariants as entries
 use Rattle.vote_book.specs.Books.{Among, last_made, Lawful}
 use Rattle.regency_sync.proofs.Lists.{each_as}
 use Rattle.agreement_laws.specs.Fronts.{IsFront}
-use Rattle.agreement_laws.specs.Statements.{Statement, Voted, Reported, Synced, Marked, Replied, Informed, signer_of, within, verifies}
+use Rattle.agreement_laws.specs.Statements.{Statement, Voted, Reported, Marked, Replied, Informed, signer_of, within, verifies}
 use Rattle.agreement_laws.specs.Diaries.{HasReached, HasVoted, IsShown}
-use Rattle.agreement_laws.specs.Certificates.{IsDrawn, IsChosen, IsBacked}
+use Rattle.agreement_laws.specs.Certificates.{IsDrawn, IsChosen, IsTaken, IsBacked}
 use Rattle.agreement_laws.specs.Law.{IsCorrect, FewFaulty, Witnessed}
 use Rattle.agreement_laws.proofs.Lists.{among_left, among_either}
 
@@ -87,6 +88,12 @@ IsChosen-more secret view stated more start chosen = record {
   choice_is = chosen.choice_is;
 }
 
+pub IsTaken-more : (secret : List ℕ) (view : View) (stated more : List Statement) (i : Installation) → IsTaken secret view stated i → IsTaken secret view (stated ++ more) i
+IsTaken-more secret view stated more i taken = record {
+  holds = taken.holds;
+  drawn = each_as (λ m. Among (Marked m) stated) (λ m. Among (Marked m) (stated ++ more)) (λ m there. among_left (Marked m) stated more there) i.marks taken.drawn;
+}
+
 pub IsBacked-more : (secret : List ℕ) (digest_of : Batch → List ℕ) (view : View) (stated more : List Statement) (entry : LogEntry)
     → IsBacked secret digest_of view stated entry → IsBacked secret digest_of view (stated ++ more) entry
 IsBacked-more secret digest_of view stated more (entries.Accepted a) backed = λ of_view. IsDrawn-more secret view stated more _ a.writes (backed of_view)
@@ -95,7 +102,7 @@ IsBacked-more secret digest_of view stated more (entries.Decided d) backed = λ 
 IsBacked-more secret digest_of view stated more (entries.Opened o) backed = tt
 IsBacked-more secret digest_of view stated more (entries.Wrote w) backed = tt
 IsBacked-more secret digest_of view stated more (entries.Promised p) backed = tt
-IsBacked-more secret digest_of view stated more (entries.Installed i) backed = tt
+IsBacked-more secret digest_of view stated more (entries.Installed i) backed = λ of_view. IsTaken-more secret view stated more i (backed of_view)
 IsBacked-more secret digest_of view stated more (entries.Marked m) backed = tt
 
 pub all_backed-more : (secret : List ℕ) (digest_of : Batch → List ℕ) (view : View) (stated more : List Statement) (book : List LogEntry)

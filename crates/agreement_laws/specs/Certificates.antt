@@ -8,14 +8,15 @@ use Rattle.smart_statements.specs.Batches.{Batch}
 use Rattle.smart_statements.specs.Reports.{reports}
 use Rattle.smart_statements.specs.declared.statement.Ballot.{Ballot}
 use Rattle.smart_statements.specs.declared.report.Report.{Report}
-use Rattle.certificates.specs.Certificates.{AreSigned, IsCertificate, write_of, accept_of}
+use Rattle.certificates.specs.Certificates.{AreSigned, IsCertificate, IsMarkCertificate, write_of, accept_of}
 use Rattle.certificates.specs.Collects.{slot_of, LockHolds}
 use Rattle.regency_sync.specs.Choices.{choice}
 use Rattle.vote_book.specs.declared.entry.Start.{Start}
+use Rattle.vote_book.specs.declared.entry.Installation.{Installation}
 use Rattle.vote_book.specs.declared.entry.LogEntry.{LogEntry}
 use Rattle.vote_book.specs.declared.entry.LogEntry.TheVariants as entries
 use Rattle.vote_book.specs.Books.{Among}
-use Rattle.agreement_laws.specs.Statements.{Statement, Voted, Reported}
+use Rattle.agreement_laws.specs.Statements.{Statement, Voted, Reported, Marked}
 
 -- a quorum's votes for one thing, each of which has been stated
 pub record IsDrawn (secret : List ℕ) (view : View) (stated : List Statement) (wanted : Ballot) (votes : List (SignedBy Ballot)) : Type 0 where
@@ -48,8 +49,13 @@ pub record IsChosen (secret : List ℕ) (view : View) (stated : List Statement) 
   pub drawn : Each (λ r. Among (Reported r) stated) items
   pub choice_is : choice items ≡ record { base = start.base; bound = start.bound }
 
+-- an installation that more than f members certify by their marks, each of which has been stated (Dura-SMaRt, USENIX ATC 2013)
+pub record IsTaken (secret : List ℕ) (view : View) (stated : List Statement) (i : Installation) : Type 0 where
+  pub holds : IsMarkCertificate secret view i.place i.digest i.marks
+  pub drawn : Each (λ m. Among (Marked m) stated) i.marks
+
 -- An entry that rests on what has been stated. An accept has a write certificate. A decision has its ACCEPTs. A beginning after regency 0
--- is the choice of a collect. Other entries, and those of another view, rest on nothing.
+-- is the choice of a collect. An installation has its marks. Other entries, and those of another view, rest on nothing.
 abbrev pub IsBacked : List ℕ → (Batch → List ℕ) → View → List Statement → LogEntry → Type 0
 IsBacked secret digest_of view stated (entries.Accepted a) =
     a.slot.view ≡ view.number → IsWritten secret view stated a.slot.place a.slot.regency a.digest a.writes
@@ -59,5 +65,5 @@ IsBacked secret digest_of view stated (entries.Decided d) =
 IsBacked secret digest_of view stated (entries.Opened o) = Unit {0}
 IsBacked secret digest_of view stated (entries.Wrote w) = Unit {0}
 IsBacked secret digest_of view stated (entries.Promised p) = Unit {0}
-IsBacked secret digest_of view stated (entries.Installed i) = Unit {0}
+IsBacked secret digest_of view stated (entries.Installed i) = i.view ≡ view.number → IsTaken secret view stated i
 IsBacked secret digest_of view stated (entries.Marked m) = Unit {0}

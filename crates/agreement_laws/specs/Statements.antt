@@ -5,7 +5,7 @@ use Rattle.smart_messages.specs.declared.message.Message.{Message}
 use Rattle.smart_keys.specs.Keys.{is_tag}
 use Rattle.vote_book.specs.Books.{Among}
 -- the kinds of statements, and the statements in a message, are defined in smart_messages
-pub use Rattle.smart_messages.specs.Messages.{Statement, Asked, Proposed, Voted, Stopped, Reported, Synced, Marked, Replied, Informed, sealed, sealed_of, parts_of_evidence, parts_of_lock, in_report, within, requests_of, head, said, statements_in, reply_stated}
+pub use Rattle.smart_messages.specs.Messages.{Statement, Asked, Proposed, Voted, Stopped, Reported, Synced, Marked, Replied, Informed, sealed, sealed_of, parts_of_evidence, parts_of_lock, in_report, within, requests_of, own, proof_in, said, statements_in, reply_stated}
 
 abbrev pub signer_of : Statement → Party
 signer_of s = (sealed_of s).who

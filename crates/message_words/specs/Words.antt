@@ -32,8 +32,12 @@ summary_of (changes.StopData r) =
     summaries.StopData r.head.statement.view r.head.statement.regency r.head.statement.last (regency_locked r.head.statement.lock)
 summary_of (changes.Sync s) =
     summaries.Sync s.statement.view s.statement.regency (choice s.statement.collect).base (is_some (choice s.statement.collect).bound)
+summary_of (changes.Decision d) = summaries.Decision d.place
 summary_of (Reply a) = summaries.Reply a.statement.client a.statement.seq a.statement.place a.statement.index
 summary_of (changes.Mark m) = summaries.Mark m.statement.place
+summary_of (changes.StateAsk a) = summaries.StateAsk a.place a.fetch
+summary_of (changes.StateOffer o) = summaries.Offer o.place (length o.marks)
+summary_of (changes.StatePart p) = summaries.Part p.place p.index p.total
 
 -- a number after a space
 abbrev pub after_space : ℕ → List ℕ
@@ -56,6 +60,10 @@ summary_text (summaries.Accept v k r) = codes "accept" ++ (after_space v ++ (aft
 summary_text (summaries.Stop v r) = codes "stop" ++ (after_space v ++ after_space r)
 summary_text (summaries.StopData v r last lock) = codes "stopdata" ++ (after_space v ++ (after_space r ++ (after_space last ++ lock_text lock)))
 summary_text (summaries.Sync v r base bound) = codes "sync" ++ (after_space v ++ (after_space r ++ (after_space base ++ bound_text bound)))
+summary_text (summaries.Decision k) = codes "decision" ++ after_space k
 summary_text (summaries.Reply c s k i) = codes "reply" ++ (after_space c ++ (after_space s ++ (after_space k ++ after_space i)))
 summary_text (summaries.Mark k) = codes "mark" ++ after_space k
+summary_text (summaries.StateAsk q fetch) = codes "stateask" ++ (after_space q ++ after_space fetch)
+summary_text (summaries.Offer k marks) = codes "offer" ++ (after_space k ++ after_space marks)
+summary_text (summaries.Part k index total) = codes "part" ++ (after_space k ++ (after_space index ++ after_space total))
 summary_text summaries.Raw = codes "raw"

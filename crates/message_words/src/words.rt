@@ -63,6 +63,26 @@ pub enum Summary {
     Mark {
         place: Place,
     },
+    /// A DECISION: the place of its batch.
+    Decision {
+        place: Place,
+    },
+    /// A STATEASK: the place of the member that asks, and that of the snapshot whose parts it asks for.
+    StateAsk {
+        place: Place,
+        fetch: Place,
+    },
+    /// A STATEOFFER: the place of the offered snapshot, and how many marks come with it.
+    Offer {
+        place: Place,
+        marks: u64,
+    },
+    /// A STATEPART: the place of the snapshot, the number of the part, and how many there are.
+    Part {
+        place: Place,
+        index: u32,
+        total: u32,
+    },
     /// Bytes that are no message.
     Raw,
 }
@@ -154,6 +174,22 @@ pub fn summary_of(message: &Message) -> Summary
         }
         Message::Mark(mark) => Summary::Mark {
             place: mark.statement().place,
+        },
+        Message::Decision(proven) => Summary::Decision {
+            place: proven.place,
+        },
+        Message::StateAsk(ask) => Summary::StateAsk {
+            place: ask.place,
+            fetch: ask.fetch,
+        },
+        Message::StateOffer(offer) => Summary::Offer {
+            place: offer.place,
+            marks: offer.marks.len() as u64,
+        },
+        Message::StatePart(part) => Summary::Part {
+            place: part.place,
+            index: part.index,
+            total: part.total,
         },
     }
 }
@@ -248,6 +284,26 @@ pub fn push_summary(out: &mut String, summary: Summary) -> Result<(), AllocError
         Summary::Mark { place } => {
             let place = place.get();
             write!(out, "mark {place}")
+        }
+        Summary::Decision { place } => {
+            let place = place.get();
+            write!(out, "decision {place}")
+        }
+        Summary::StateAsk { place, fetch } => {
+            let (place, fetch) = (place.get(), fetch.get());
+            write!(out, "stateask {place} {fetch}")
+        }
+        Summary::Offer { place, marks } => {
+            let place = place.get();
+            write!(out, "offer {place} {marks}")
+        }
+        Summary::Part {
+            place,
+            index,
+            total,
+        } => {
+            let place = place.get();
+            write!(out, "part {place} {index} {total}")
         }
         Summary::Raw => out.push_str("raw"),
     }

@@ -1,8 +1,9 @@
 -- What is read is spelled so, and what is spelled so is read.
-use Rattle.std.proofs.Common.{◌≡◌, ℕ, ◌+◌, ◌^◌, ◌<◌, ◌≤◌, ◌==◌, Bool, true, false, cond, eqb, eq-eqb, ◌||◌, List, [], ◌∷◌, ◌++◌, append-nil, length, Result, Ok, Err, refl, sym, ap, subst, ◌∙◌, arith}
+use Rattle.std.proofs.Common.{◌≡◌, ℕ, ◌+◌, ◌^◌, ◌<◌, ◌≤◌, ◌==◌, Bool, true, false, cond, eqb, leb, eq-eqb, ◌&&◌, map, List, [], ◌∷◌, ◌++◌, append-nil, length, Result, Ok, Err, refl, sym, ap, subst, ◌∙◌, arith}
 use Rattle.std.specs.Prelude.{IfOk}
 use Rattle.std.specs.Int.{w8, to_be_bytes}
-use Rattle.std.proofs.lemmas.Bool.{eqb-true}
+use Rattle.std.proofs.lemmas.Bool.{eqb-true, eqb-false, leb-true}
+use Rattle.smart_base.specs.FieldLaws.{and_true}
 use Rattle.smart_base.specs.Cuts.{Cut, Read, IsBytes, ◌>>=◌, number_at, limited, GivesAll}
 use Rattle.smart_base.specs.Spelling.{u8, member_kind, Spelled, Law}
 use Rattle.smart_base.specs.declared.party.Party.TheVariants as parties
@@ -16,12 +17,20 @@ use Rattle.smart_statements.specs.Reading.{signed_at, batch_at}
 use Rattle.smart_statements.specs.Batches.{batch_text, FitsBatch}
 use Rattle.smart_statements.specs.SignedLists.{optional, FitsOptional, optional_at}
 use Rattle.smart_statements.specs.SignedListLaws.{optional_law}
-use Rattle.smart_statements.specs.Reports.{reports, FitsReport, marks, FitsMark}
+use Rattle.smart_statements.specs.Reports.{reports, FitsReport, marks, FitsMark, votes_of, FitsVote}
+use Rattle.smart_statements.specs.declared.statement.Ballot.{Ballot}
+use Rattle.smart_statements.specs.declared.report.Mark.{Mark}
+use Rattle.smart_base.specs.Lists.{Each}
+use Rattle.std.specs.List.{AllByRecursion}
 use Rattle.smart_statements.specs.ReportLaws.{report_law, mark_law}
 use Rattle.smart_statements.specs.declared.statement.VoteKind.{VoteKind}
 use Rattle.smart_statements.specs.declared.statement.VoteKind.TheVariants.{Write, Accept}
+use Rattle.transfer_form.specs.Transfers as transfers
+use Rattle.transfer_form.specs.Transfers.{ask_text, FitsAsk, offer_text, FitsOffer, offer_at, part_text, FitsPart, part_at, proven_text, FitsProven, proven_at}
+use Rattle.transfer_form.proofs.Transfers as laws
+use Rattle.transfer_form.proofs.Transfers.{offer_law, part_law, proven_law}
 use Rattle.smart_messages.specs.Regencies.{stops, FitsStop, syncs, FitsSync, view_infos, FitsViewInfo, stop_law, sync_law, view_info_law}
-use Rattle.smart_messages.specs.Messages.{kind, content, spelling, FitsContent, Fits, ask_at, propose_at, vote_at, stop_message_at, stop_data_at, sync_message_at, reply_at, mark_message_at, body_at, is_kind, message_kind_at, message_at, decoded, batch_in, Statement, Asked, Proposed, Voted, Stopped, Reported, Synced, Marked, Replied, Informed, sealed, sealed_of, head}
+use Rattle.smart_messages.specs.Messages.{kind, content, spelling, FitsContent, Fits, ask_at, propose_at, vote_at, stop_message_at, stop_data_at, sync_message_at, decision_at, reply_at, mark_message_at, state_ask_at, state_offer_at, state_part_at, body_at, is_kind, message_kind_at, message_at, decoded, batch_in, decision_in, proof_in, Statement, Asked, Proposed, Voted, Stopped, Reported, Synced, Marked, Replied, Informed, sealed, sealed_of, own}
 use Rattle.smart_messages.specs.declared.message.Sealed.{Sealed}
 use Rattle.smart_messages.specs.declared.message.Message.{Message}
 use Rattle.smart_messages.specs.declared.message.Message.TheVariants.{Ask, Propose, Vote, Reply}
@@ -125,15 +134,55 @@ mark_takes c y bs e =
     let t = mark_part.takes c b.0 bs b.1 in
     subst (λ (y : Message × Cut). IsTaken 9 c y.0 y.1) (ok_is (changes.Mark b.0.0, b.0.1) y b.2) ((refl, t.0), t.1)
 
-last_of : (a b c d e f g h : Bool) → (a || b || c || d || e || f || g || h) ≡ true → a ≡ false → b ≡ false → c ≡ false → d ≡ false → e ≡ false → f ≡ false → g ≡ false → h ≡ true
-last_of true b c d e f g h one p q r s t u v = absurd cc
-last_of false true c d e f g h one p q r s t u v = absurd cc
-last_of false false true d e f g h one p q r s t u v = absurd cc
-last_of false false false true e f g h one p q r s t u v = absurd cc
-last_of false false false false true f g h one p q r s t u v = absurd cc
-last_of false false false false false true g h one p q r s t u v = absurd cc
-last_of false false false false false false true h one p q r s t u v = absurd cc
-last_of false false false false false false false h one p q r s t u v = one
+decision_takes : (c : Cut) (y : Message × Cut) → IsBytes c.left → decision_at c ≡ Ok y → IsTaken 7 c y.0 y.1
+unfolding decision_at
+decision_takes c y bs e =
+    let b = bind_ok (proven_at c) (λ d. Ok (changes.Decision d.0, d.1)) y e in
+    let t = proven_law.takes c b.0 bs b.1 in
+    subst (λ (y : Message × Cut). IsTaken 7 c y.0 y.1) (ok_is (changes.Decision b.0.0, b.0.1) y b.2) ((refl, t.0), t.1)
+
+state_ask_takes : (c : Cut) (y : Message × Cut) → IsBytes c.left → state_ask_at c ≡ Ok y → IsTaken 10 c y.0 y.1
+unfolding state_ask_at
+state_ask_takes c y bs e =
+    let b = bind_ok (transfers.ask_at c) (λ a. Ok (changes.StateAsk a.0, a.1)) y e in
+    let t = laws.ask_law.takes c b.0 bs b.1 in
+    subst (λ (y : Message × Cut). IsTaken 10 c y.0 y.1) (ok_is (changes.StateAsk b.0.0, b.0.1) y b.2) ((refl, t.0), t.1)
+
+state_offer_takes : (c : Cut) (y : Message × Cut) → IsBytes c.left → state_offer_at c ≡ Ok y → IsTaken 11 c y.0 y.1
+unfolding state_offer_at
+state_offer_takes c y bs e =
+    let b = bind_ok (offer_at c) (λ o. Ok (changes.StateOffer o.0, o.1)) y e in
+    let t = offer_law.takes c b.0 bs b.1 in
+    subst (λ (y : Message × Cut). IsTaken 11 c y.0 y.1) (ok_is (changes.StateOffer b.0.0, b.0.1) y b.2) ((refl, t.0), t.1)
+
+state_part_takes : (c : Cut) (y : Message × Cut) → IsBytes c.left → state_part_at c ≡ Ok y → IsTaken 12 c y.0 y.1
+unfolding state_part_at
+state_part_takes c y bs e =
+    let b = bind_ok (part_at c) (λ p. Ok (changes.StatePart p.0, p.1)) y e in
+    let t = part_law.takes c b.0 bs b.1 in
+    subst (λ (y : Message × Cut). IsTaken 12 c y.0 y.1) (ok_is (changes.StatePart b.0.0, b.0.1) y b.2) ((refl, t.0), t.1)
+
+-- a kind from 1 to 12 that is none of the first eleven
+last_of : (k : ℕ) → is_kind k ≡ true → eqb k 1 ≡ false → eqb k 2 ≡ false → eqb k 3 ≡ false → eqb k 4 ≡ false → eqb k 5 ≡ false → eqb k 6 ≡ false → eqb k 7 ≡ false → eqb k 8 ≡ false
+    → eqb k 9 ≡ false → eqb k 10 ≡ false → eqb k 11 ≡ false → k ≡ 12
+last_of k known a b c d e f g h i j l =
+    let ends = and_true (leb 1 k) (leb k 12) known in
+    omega (
+      arith,
+      leb-true 1 k ends.0,
+      leb-true k 12 ends.1,
+      eqb-false k 1 a,
+      eqb-false k 2 b,
+      eqb-false k 3 c,
+      eqb-false k 4 d,
+      eqb-false k 5 e,
+      eqb-false k 6 f,
+      eqb-false k 7 g,
+      eqb-false k 8 h,
+      eqb-false k 9 i,
+      eqb-false k 10 j,
+      eqb-false k 11 l,
+    )
 
 body_takes : (k : ℕ) → is_kind k ≡ true → (c : Cut) (y : Message × Cut) → IsBytes c.left → body_at k c ≡ Ok y → IsTaken k c y.0 y.1
 unfolding body_at
@@ -144,13 +193,15 @@ body_takes k known c y bs e =
     picked (eqb k 4) k 4 _ _ y refl e4 (λ same one. subst (λ (k : ℕ). IsTaken k c y.0 y.1) (sym same) (stop_takes c y bs one)) λ n4 e5.
     picked (eqb k 5) k 5 _ _ y refl e5 (λ same one. subst (λ (k : ℕ). IsTaken k c y.0 y.1) (sym same) (stop_data_takes c y bs one)) λ n5 e6.
     picked (eqb k 6) k 6 _ _ y refl e6 (λ same one. subst (λ (k : ℕ). IsTaken k c y.0 y.1) (sym same) (sync_takes c y bs one)) λ n6 e7.
-    picked (eqb k 8) k 8 _ _ y refl e7 (λ same one. subst (λ (k : ℕ). IsTaken k c y.0 y.1) (sym same) (reply_takes c y bs one)) λ n7 e8.
-    subst (λ (k : ℕ). IsTaken k c y.0 y.1)
-    (sym (eqb-true k 9 (last_of (eqb k 1) (eqb k 2) (eqb k 3) (eqb k 4) (eqb k 5) (eqb k 6) (eqb k 8) (eqb k 9) known n1 n2 n3 n4 n5 n6 n7)))
-    (mark_takes c y bs e8)
+    picked (eqb k 7) k 7 _ _ y refl e7 (λ same one. subst (λ (k : ℕ). IsTaken k c y.0 y.1) (sym same) (decision_takes c y bs one)) λ n7 e8.
+    picked (eqb k 8) k 8 _ _ y refl e8 (λ same one. subst (λ (k : ℕ). IsTaken k c y.0 y.1) (sym same) (reply_takes c y bs one)) λ n8 e9.
+    picked (eqb k 9) k 9 _ _ y refl e9 (λ same one. subst (λ (k : ℕ). IsTaken k c y.0 y.1) (sym same) (mark_takes c y bs one)) λ n9 e10.
+    picked (eqb k 10) k 10 _ _ y refl e10 (λ same one. subst (λ (k : ℕ). IsTaken k c y.0 y.1) (sym same) (state_ask_takes c y bs one)) λ n10 e11.
+    picked (eqb k 11) k 11 _ _ y refl e11 (λ same one. subst (λ (k : ℕ). IsTaken k c y.0 y.1) (sym same) (state_offer_takes c y bs one)) λ n11 e12.
+    subst (λ (k : ℕ). IsTaken k c y.0 y.1) (sym (last_of k known n1 n2 n3 n4 n5 n6 n7 n8 n9 n10 n11)) (state_part_takes c y bs e12)
 
 content_again : (c : Cut) (m : Message) (d : Cut) → FitsContent m → Spelled c (content m) d → body_at (kind m) c ≡ Ok (m, d)
-unfolding body_at ask_at propose_at vote_at stop_message_at stop_data_at sync_message_at reply_at mark_message_at
+unfolding body_at ask_at propose_at vote_at stop_message_at stop_data_at sync_message_at decision_at reply_at mark_message_at state_ask_at state_offer_at state_part_at
 content_again c (Ask a) d h s = bind_is (signed_at requests c) (λ a. Ok (Ask a.0, a.1)) (a, d) (ask_law.again c a d h s)
 content_again c (Vote a) d h s = bind_is (signed_at ballots c) (λ a. Ok (Vote a.0, a.1)) (a, d) (vote_law.again c a d h s)
 content_again c (Reply a) d h s = bind_is (signed_at answers c) (λ a. Ok (Reply a.0, a.1)) (a, d) (reply_law.again c a d h s)
@@ -163,6 +214,10 @@ content_again c (Propose p) d h s =
 content_again c (changes.Stop s) d h p = bind_is (signed_at stops c) (λ s. Ok (changes.Stop s.0, s.1)) (s, d) (stop_part.again c s d h p)
 content_again c (changes.Sync s) d h p = bind_is (signed_at syncs c) (λ s. Ok (changes.Sync s.0, s.1)) (s, d) (sync_part.again c s d h p)
 content_again c (changes.Mark m) d h p = bind_is (signed_at marks c) (λ m. Ok (changes.Mark m.0, m.1)) (m, d) (mark_part.again c m d h p)
+content_again c (changes.Decision b) d h s = bind_is (proven_at c) (λ x. Ok (changes.Decision x.0, x.1)) (b, d) (proven_law.again c b d h s)
+content_again c (changes.StateAsk a) d h s = bind_is (transfers.ask_at c) (λ x. Ok (changes.StateAsk x.0, x.1)) (a, d) (laws.ask_law.again c a d h s)
+content_again c (changes.StateOffer o) d h s = bind_is (offer_at c) (λ x. Ok (changes.StateOffer x.0, x.1)) (o, d) (offer_law.again c o d h s)
+content_again c (changes.StatePart p) d h s = bind_is (part_at c) (λ x. Ok (changes.StatePart x.0, x.1)) (p, d) (part_law.again c p d h s)
 content_again c (changes.StopData r) d h p =
     let m = middle c (signed reports r.head) (optional batch_text r.batch) d in
     bind_is (signed_at reports c) (λ r. optional_at (batch_at requests) r.1 >>= λ b. Ok (changes.StopData (record { head = r.0; batch = b.0 }), b.1))
@@ -180,6 +235,10 @@ kind_fits (changes.StopData r) = (omega arith, refl)
 kind_fits (changes.Sync s) = (omega arith, refl)
 kind_fits (Reply s) = (omega arith, refl)
 kind_fits (changes.Mark m) = (omega arith, refl)
+kind_fits (changes.Decision d) = (omega arith, refl)
+kind_fits (changes.StateAsk a) = (omega arith, refl)
+kind_fits (changes.StateOffer o) = (omega arith, refl)
+kind_fits (changes.StatePart p) = (omega arith, refl)
 
 body_law : (k : ℕ) → (k < 2 ^ 8) × (is_kind k ≡ true) → Law (λ m. (Unit {0} × (kind m ≡ k)) × FitsContent m) content (body_at k)
 body_law k h = record {
@@ -317,12 +376,31 @@ one_seal s t fs ft same = absurd (differ (number_of s) (number_of t) refl (numbe
 
 -- ---- what a message that is read states
 
-pub head_fits : (m : Message) → FitsContent m → FitsStatement (head m)
-head_fits (Propose p) fits = fits.0.statement_fits
-head_fits (changes.StopData r) fits = fits.0.statement_fits
-head_fits _ fits = fits.statement_fits
+marks_fit : (ms : List (SignedBy Mark)) → AllByRecursion (FitsSigned marks (λ signer. FitsMark)) ms → Each FitsStatement (map Marked ms)
+marks_fit [] fits = tt
+marks_fit (m ∷ ms) fits = (fits.0.statement_fits, marks_fit ms fits.1)
+
+votes_fit : (bs : List (SignedBy Ballot)) → AllByRecursion (FitsSigned (votes_of Accept) (λ signer. FitsVote Accept)) bs → Each FitsStatement (map Voted bs)
+votes_fit [] fits = tt
+votes_fit (b ∷ bs) fits = (fits.0.statement_fits.ballot_fits, votes_fit bs fits.1)
+
+-- what its sender states with a message that fits has a spelling
+pub own_fits : (m : Message) → FitsContent m → Each FitsStatement (own m)
+own_fits (Propose p) fits = (fits.0.statement_fits, tt)
+own_fits (changes.StopData r) fits = (fits.0.statement_fits, tt)
+own_fits (changes.Decision d) fits = tt
+own_fits (changes.StateAsk a) fits = tt
+own_fits (changes.StateOffer o) fits = marks_fit o.marks fits.marks_fit.1
+own_fits (changes.StatePart p) fits = tt
+own_fits _ fits = (fits.statement_fits, tt)
+
+-- and so have the votes that it shows
+pub proof_in_fits : (m : Message) → FitsContent m → Each FitsStatement (proof_in (decision_in m))
+proof_in_fits (changes.Decision d) fits = votes_fit d.accepts fits.accepts_fit.1
+proof_in_fits _ fits = tt
 
 pub batch_in_fits : (m : Message) → FitsContent m → FitsOptional FitsBatch (batch_in m)
 batch_in_fits (Propose p) fits = fits.1
 batch_in_fits (changes.StopData r) fits = fits.1
+batch_in_fits (changes.Decision d) fits = fits.batch_fits
 batch_in_fits _ fits = tt

@@ -92,3 +92,32 @@ pub sync_stands : (old mid new : List Sealed) (s : SignedBy Sync) (items : List 
 sync_stands old mid new s items is a b =
     two old mid new (sealed syncs s ∷ []) (map sealed_of (flat_map in_report s.statement.collect)) a (rw is at b)
     ∙ ap (λ xs. old ++ map sealed_of xs) (sym (append-nil (Synced s ∷ flat_map in_report s.statement.collect)))
+
+within_voted : (bs : List (SignedBy Ballot)) → flat_map within (map Voted bs) ≡ map Voted bs
+within_voted [] = refl
+within_voted (b ∷ bs) = ap (λ xs. Voted b ∷ xs) (within_voted bs)
+
+within_marked : (ms : List (SignedBy Mark)) → flat_map within (map Marked ms) ≡ map Marked ms
+within_marked [] = refl
+within_marked (m ∷ ms) = ap (λ xs. Marked m ∷ xs) (within_marked ms)
+
+flat-append : (xs ys : List Statement) → flat_map within (xs ++ ys) ≡ flat_map within xs ++ flat_map within ys
+flat-append [] ys = refl
+flat-append (x ∷ xs) ys = ap (λ zs. within x ++ zs) (flat-append xs ys) ∙ sym (append_assoc (within x) (flat_map within xs) (flat_map within ys))
+
+-- a decided batch: its votes, and its requests
+pub decision_stands : (old mid new : List Sealed) (bs votes : List (SignedBy Ballot)) (qs items : Batch) → votes ≡ bs → items ≡ qs → mid ≡ old ++ map (sealed ballots) votes
+    → new ≡ mid ++ map (sealed requests) items → new ≡ old ++ map sealed_of (flat_map within (map Voted bs ++ map Asked qs))
+decision_stands old mid new bs votes qs items are is a b =
+    two old mid new (map (sealed ballots) bs) (map (sealed requests) qs) (rw are at a) (rw is at b)
+    ∙ ap (λ xs. old ++ xs)
+    (sym (ap (λ xs. map sealed_of xs) (flat-append (map Voted bs) (map Asked qs)) ∙ (map-append sealed_of (flat_map within (map Voted bs)) (flat_map within (map Asked qs))
+    ∙ (ap (λ xs. map sealed_of xs ++ map sealed_of (flat_map within (map Asked qs))) (within_voted bs)
+    ∙ (ap (λ xs. xs ++ map sealed_of (flat_map within (map Asked qs))) (voted_are bs)
+    ∙ (ap (λ xs. map (sealed ballots) bs ++ map sealed_of xs) (within_asked qs) ∙ ap (λ xs. map (sealed ballots) bs ++ xs) (asked_are qs)))))))
+
+-- an offer: its marks
+pub offer_stands : (old new : List Sealed) (ms items : List (SignedBy Mark)) → items ≡ ms → new ≡ old ++ map (sealed marks) items
+    → new ≡ old ++ map sealed_of (flat_map within (map Marked ms ++ []))
+offer_stands old new ms items is a =
+    (rw is at a) ∙ ap (λ xs. old ++ xs) (sym (ap (λ xs. map sealed_of (flat_map within xs)) (append-nil (map Marked ms)) ∙ (ap (λ xs. map sealed_of xs) (within_marked ms) ∙ marked_are ms)))

@@ -1,5 +1,5 @@
 -- Messages: their bytes, which messages have bytes, how they are read, and what stands in them.
-use Rattle.std.specs.Prelude.{ℕ, ◌≤◌, List, ◌++◌, length, Bool, false, Option, Some, None, Result, Ok, ◌==◌, ◌||◌, if◌then◌else◌, [], ◌∷◌, map}
+use Rattle.std.specs.Prelude.{ℕ, ◌≤◌, List, ◌++◌, length, nat_le, Bool, false, ◌&&◌, Option, Some, None, Result, Ok, ◌==◌, if◌then◌else◌, [], ◌∷◌, map}
 use Rattle.std.specs.Int.{w8}
 use Rattle.std.specs.List.{flat_map}
 use Rattle.smart_base.specs.Cuts.{Cut, Read, ◌>>=◌, number_at, ranged, limited, whole}
@@ -22,6 +22,11 @@ use Rattle.smart_statements.specs.declared.report.LockCertificate.{LockCertifica
 use Rattle.smart_statements.specs.declared.report.Evidence.{Evidence}
 use Rattle.smart_statements.specs.declared.report.Report.{Report}
 use Rattle.smart_statements.specs.declared.report.Evidence.TheVariants as evidence
+use Rattle.transfer_form.specs.Transfers as transfers
+use Rattle.transfer_form.specs.Transfers.{ask_text, FitsAsk, offer_text, FitsOffer, offer_at, part_text, FitsPart, part_at, proven_text, FitsProven, proven_at}
+use Rattle.transfer_form.specs.declared.transfer.StateAsk.{StateAsk}
+use Rattle.transfer_form.specs.declared.transfer.StateOffer.{StateOffer}
+use Rattle.transfer_form.specs.declared.transfer.ProvenBatch.{ProvenBatch}
 use Rattle.smart_messages.specs.Regencies.{stops, FitsStop, syncs, FitsSync, view_infos}
 use Rattle.smart_messages.specs.declared.regency.Stop.{Stop}
 use Rattle.smart_messages.specs.declared.regency.Sync.{Sync}
@@ -43,8 +48,12 @@ kind (Vote v) = 3
 kind (changes.Stop s) = 4
 kind (changes.StopData r) = 5
 kind (changes.Sync s) = 6
+kind (changes.Decision d) = 7
 kind (Reply r) = 8
 kind (changes.Mark m) = 9
+kind (changes.StateAsk a) = 10
+kind (changes.StateOffer o) = 11
+kind (changes.StatePart p) = 12
 
 -- the bytes of a message after the first one
 abbrev pub content : Message → List ℕ
@@ -54,8 +63,12 @@ content (Vote v) = signed ballots v
 content (changes.Stop s) = signed stops s
 content (changes.StopData r) = signed reports r.head ++ optional batch_text r.batch
 content (changes.Sync s) = signed syncs s
+content (changes.Decision d) = proven_text d
 content (Reply r) = signed answers r
 content (changes.Mark m) = signed marks m
+content (changes.StateAsk a) = ask_text a
+content (changes.StateOffer o) = offer_text o
+content (changes.StatePart p) = part_text p
 
 -- the bytes of a message: it has one spelling
 unfoldable pub spelling : Message → List ℕ
@@ -70,8 +83,12 @@ FitsContent (Vote v) = FitsSigned ballots (λ signer. FitsBallot) v
 FitsContent (changes.Stop s) = FitsSigned stops (λ signer. FitsStop) s
 FitsContent (changes.StopData r) = FitsSigned reports (λ signer. FitsReport) r.head × FitsOptional FitsBatch r.batch
 FitsContent (changes.Sync s) = FitsSigned syncs (λ signer. FitsSync) s
+FitsContent (changes.Decision d) = FitsProven d
 FitsContent (Reply r) = FitsSigned answers (λ signer. FitsAnswer) r
 FitsContent (changes.Mark m) = FitsSigned marks (λ signer. FitsMark) m
+FitsContent (changes.StateAsk a) = FitsAsk a
+FitsContent (changes.StateOffer o) = FitsOffer o
+FitsContent (changes.StatePart p) = FitsPart p
 
 -- a message that has bytes: each field is within its limits, and all are at most 1,048,576 bytes
 pub record Fits (m : Message) : Type 0 where
@@ -112,6 +129,11 @@ sync_message_at c = do
   s ← signed_at syncs c
   Ok (changes.Sync s.0, s.1)
 
+unfoldable pub decision_at : Cut → Read Message
+decision_at c = do
+  d ← proven_at c
+  Ok (changes.Decision d.0, d.1)
+
 unfoldable pub reply_at : Cut → Read Message
 reply_at c = do
   r ← signed_at answers c
@@ -122,6 +144,21 @@ mark_message_at c = do
   m ← signed_at marks c
   Ok (changes.Mark m.0, m.1)
 
+unfoldable pub state_ask_at : Cut → Read Message
+state_ask_at c = do
+  a ← transfers.ask_at c
+  Ok (changes.StateAsk a.0, a.1)
+
+unfoldable pub state_offer_at : Cut → Read Message
+state_offer_at c = do
+  o ← offer_at c
+  Ok (changes.StateOffer o.0, o.1)
+
+unfoldable pub state_part_at : Cut → Read Message
+state_part_at c = do
+  p ← part_at c
+  Ok (changes.StatePart p.0, p.1)
+
 unfoldable pub body_at : ℕ → Cut → Read Message
 body_at kind c =
     if kind == 1 then ask_at c
@@ -130,12 +167,16 @@ body_at kind c =
     else if kind == 4 then stop_message_at c
     else if kind == 5 then stop_data_at c
     else if kind == 6 then sync_message_at c
+    else if kind == 7 then decision_at c
     else if kind == 8 then reply_at c
-    else mark_message_at c
+    else if kind == 9 then mark_message_at c
+    else if kind == 10 then state_ask_at c
+    else if kind == 11 then state_offer_at c
+    else state_part_at c
 
 -- a byte with which a message begins
 abbrev pub is_kind : ℕ → Bool
-is_kind k = k == 1 || k == 2 || k == 3 || k == 4 || k == 5 || k == 6 || k == 8 || k == 9
+is_kind k = nat_le 1 k && nat_le k 12
 
 abbrev pub message_kind_at : Cut → Read ℕ
 message_kind_at = ranged is_kind (number_at w8)
@@ -159,8 +200,12 @@ request_in (Vote b) = None
 request_in (changes.Stop s) = None
 request_in (changes.StopData r) = None
 request_in (changes.Sync s) = None
+request_in (changes.Decision d) = None
 request_in (Reply a) = None
 request_in (changes.Mark m) = None
+request_in (changes.StateAsk a) = None
+request_in (changes.StateOffer o) = None
+request_in (changes.StatePart p) = None
 
 -- the PROPOSE that a message is, if it is one
 abbrev pub proposal_in : Message → Option proposed.Proposed
@@ -170,8 +215,12 @@ proposal_in (Vote b) = None
 proposal_in (changes.Stop s) = None
 proposal_in (changes.StopData r) = None
 proposal_in (changes.Sync s) = None
+proposal_in (changes.Decision d) = None
 proposal_in (Reply a) = None
 proposal_in (changes.Mark m) = None
+proposal_in (changes.StateAsk a) = None
+proposal_in (changes.StateOffer o) = None
+proposal_in (changes.StatePart p) = None
 
 -- the vote that a message is, if it is one
 abbrev pub vote_in : Message → Option (SignedBy Ballot)
@@ -181,8 +230,12 @@ vote_in (Vote b) = Some b
 vote_in (changes.Stop s) = None
 vote_in (changes.StopData r) = None
 vote_in (changes.Sync s) = None
+vote_in (changes.Decision d) = None
 vote_in (Reply a) = None
 vote_in (changes.Mark m) = None
+vote_in (changes.StateAsk a) = None
+vote_in (changes.StateOffer o) = None
+vote_in (changes.StatePart p) = None
 
 -- the STOP that a message is, if it is one
 abbrev pub stop_in : Message → Option (SignedBy Stop)
@@ -192,8 +245,12 @@ stop_in (Vote b) = None
 stop_in (changes.Stop s) = Some s
 stop_in (changes.StopData r) = None
 stop_in (changes.Sync s) = None
+stop_in (changes.Decision d) = None
 stop_in (Reply a) = None
 stop_in (changes.Mark m) = None
+stop_in (changes.StateAsk a) = None
+stop_in (changes.StateOffer o) = None
+stop_in (changes.StatePart p) = None
 
 -- the STOPDATA that a message is, if it is one
 abbrev pub report_in : Message → Option reported.Reported
@@ -203,8 +260,12 @@ report_in (Vote b) = None
 report_in (changes.Stop s) = None
 report_in (changes.StopData r) = Some r
 report_in (changes.Sync s) = None
+report_in (changes.Decision d) = None
 report_in (Reply a) = None
 report_in (changes.Mark m) = None
+report_in (changes.StateAsk a) = None
+report_in (changes.StateOffer o) = None
+report_in (changes.StatePart p) = None
 
 -- the SYNC that a message is, if it is one
 abbrev pub sync_in : Message → Option (SignedBy Sync)
@@ -214,8 +275,12 @@ sync_in (Vote b) = None
 sync_in (changes.Stop s) = None
 sync_in (changes.StopData r) = None
 sync_in (changes.Sync s) = Some s
+sync_in (changes.Decision d) = None
 sync_in (Reply a) = None
 sync_in (changes.Mark m) = None
+sync_in (changes.StateAsk a) = None
+sync_in (changes.StateOffer o) = None
+sync_in (changes.StatePart p) = None
 
 -- the reply that a message is, if it is one
 abbrev pub reply_in : Message → Option (SignedBy Answer)
@@ -225,8 +290,12 @@ reply_in (Vote b) = None
 reply_in (changes.Stop s) = None
 reply_in (changes.StopData r) = None
 reply_in (changes.Sync s) = None
+reply_in (changes.Decision d) = None
 reply_in (Reply a) = Some a
 reply_in (changes.Mark m) = None
+reply_in (changes.StateAsk a) = None
+reply_in (changes.StateOffer o) = None
+reply_in (changes.StatePart p) = None
 
 -- the slot of a PROPOSE or of a vote
 abbrev pub slot_of : Message → Option Slot
@@ -236,10 +305,74 @@ slot_of (Vote b) = Some b.statement.slot
 slot_of (changes.Stop s) = None
 slot_of (changes.StopData r) = None
 slot_of (changes.Sync s) = None
+slot_of (changes.Decision d) = None
 slot_of (Reply a) = None
 slot_of (changes.Mark m) = None
+slot_of (changes.StateAsk a) = None
+slot_of (changes.StateOffer o) = None
+slot_of (changes.StatePart p) = None
 
--- the batch of a PROPOSE, or of the lock in a STOPDATA
+-- the mark that a message is, if it is one
+abbrev pub mark_in : Message → Option (SignedBy Mark)
+mark_in (Ask q) = None
+mark_in (Propose p) = None
+mark_in (Vote b) = None
+mark_in (changes.Stop s) = None
+mark_in (changes.StopData r) = None
+mark_in (changes.Sync s) = None
+mark_in (changes.Decision d) = None
+mark_in (Reply a) = None
+mark_in (changes.Mark m) = Some m
+mark_in (changes.StateAsk a) = None
+mark_in (changes.StateOffer o) = None
+mark_in (changes.StatePart p) = None
+
+-- the decided batch that a message shows, if it does
+abbrev pub decision_in : Message → Option ProvenBatch
+decision_in (Ask q) = None
+decision_in (Propose p) = None
+decision_in (Vote b) = None
+decision_in (changes.Stop s) = None
+decision_in (changes.StopData r) = None
+decision_in (changes.Sync s) = None
+decision_in (changes.Decision d) = Some d
+decision_in (Reply a) = None
+decision_in (changes.Mark m) = None
+decision_in (changes.StateAsk a) = None
+decision_in (changes.StateOffer o) = None
+decision_in (changes.StatePart p) = None
+
+-- the ask for others' state that a message is, if it is one
+abbrev pub state_ask_in : Message → Option StateAsk
+state_ask_in (Ask q) = None
+state_ask_in (Propose p) = None
+state_ask_in (Vote b) = None
+state_ask_in (changes.Stop s) = None
+state_ask_in (changes.StopData r) = None
+state_ask_in (changes.Sync s) = None
+state_ask_in (changes.Decision d) = None
+state_ask_in (Reply a) = None
+state_ask_in (changes.Mark m) = None
+state_ask_in (changes.StateAsk a) = Some a
+state_ask_in (changes.StateOffer o) = None
+state_ask_in (changes.StatePart p) = None
+
+-- the offer that a message is, if it is one
+abbrev pub offer_in : Message → Option StateOffer
+offer_in (Ask q) = None
+offer_in (Propose p) = None
+offer_in (Vote b) = None
+offer_in (changes.Stop s) = None
+offer_in (changes.StopData r) = None
+offer_in (changes.Sync s) = None
+offer_in (changes.Decision d) = None
+offer_in (Reply a) = None
+offer_in (changes.Mark m) = None
+offer_in (changes.StateAsk a) = None
+offer_in (changes.StateOffer o) = Some o
+offer_in (changes.StatePart p) = None
+
+-- the batch of a PROPOSE or of a DECISION, or of the lock in a STOPDATA
 abbrev pub batch_in : Message → Option Batch
 batch_in (Ask q) = None
 batch_in (Propose p) = Some p.batch
@@ -247,8 +380,12 @@ batch_in (Vote b) = None
 batch_in (changes.Stop s) = None
 batch_in (changes.StopData r) = r.batch
 batch_in (changes.Sync s) = None
+batch_in (changes.Decision d) = Some d.batch
 batch_in (Reply a) = None
 batch_in (changes.Mark m) = None
+batch_in (changes.StateAsk a) = None
+batch_in (changes.StateOffer o) = None
+batch_in (changes.StatePart p) = None
 
 -- a value that is there and passes a test
 abbrev pub some_of : {A : Type 0} → (A → Bool) → Option A → Bool
@@ -322,20 +459,30 @@ abbrev pub requests_of : Option Batch → List Statement
 requests_of None = []
 requests_of (Some batch) = map Asked batch
 
--- the statement that a message is signed as
-abbrev pub head : Message → Statement
-head (Ask q) = Asked q
-head (Propose p) = Proposed p.head
-head (Vote b) = Voted b
-head (changes.Stop s) = Stopped s
-head (changes.StopData r) = Reported r.head
-head (changes.Sync s) = Synced s
-head (Reply a) = Replied a
-head (changes.Mark m) = Marked m
+-- The statements that the sender of a message makes with it: the one that it is signed as, or the marks of an offer. A DECISION shows what
+-- others have stated.
+abbrev pub own : Message → List Statement
+own (Ask q) = Asked q ∷ []
+own (Propose p) = Proposed p.head ∷ []
+own (Vote b) = Voted b ∷ []
+own (changes.Stop s) = Stopped s ∷ []
+own (changes.StopData r) = Reported r.head ∷ []
+own (changes.Sync s) = Synced s ∷ []
+own (changes.Decision d) = []
+own (Reply a) = Replied a ∷ []
+own (changes.Mark m) = Marked m ∷ []
+own (changes.StateAsk a) = []
+own (changes.StateOffer o) = map Marked o.marks
+own (changes.StatePart p) = []
 
--- the statements that a message makes itself: its own, and the requests of its batch
+-- the votes that a message shows: those of a DECISION
+abbrev pub proof_in : Option ProvenBatch → List Statement
+proof_in None = []
+proof_in (Some d) = map Voted d.accepts
+
+-- the statements that a message has: its sender's own, the votes that it shows, and the requests of its batch
 abbrev pub said : Message → List Statement
-said m = head m ∷ requests_of (batch_in m)
+said m = own m ++ (proof_in (decision_in m) ++ requests_of (batch_in m))
 
 -- all statements that stand in a message, at any depth
 abbrev pub statements_in : Message → List Statement

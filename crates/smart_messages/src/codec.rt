@@ -9,7 +9,7 @@ ghost use Rattle.smart_statements.specs.Reading.{batch_at};
 ghost use Rattle.smart_statements.specs.Reports.{reports};
 ghost use Rattle.smart_statements.specs.SignedLists.{optional, optional_at};
 ghost use Rattle.smart_statements.specs.Spelling.{signed};
-ghost use Rattle.smart_messages.specs.Messages.{Fits, kind, content, spelling, ask_at, propose_at, vote_at, stop_message_at, stop_data_at, sync_message_at, reply_at, mark_message_at, body_at, is_kind, message_kind_at, message_at, decoded};
+ghost use Rattle.smart_messages.specs.Messages.{Fits, kind, content, spelling, ask_at, propose_at, vote_at, stop_message_at, stop_data_at, sync_message_at, decision_at, reply_at, mark_message_at, state_ask_at, state_offer_at, state_part_at, body_at, is_kind, message_kind_at, message_at, decoded};
 
 use crate::message::{Message, Proposed};
 use crate::regency::{Reported, Stop, Sync};
@@ -23,6 +23,7 @@ use smart_statements::report::{Mark, Report};
 use smart_statements::signed::Signed;
 use smart_statements::statement::{Answer, Ballot, Proposal, Request};
 use std::alloc::{AllocError, Global};
+use transfer_form::transfer::{ProvenBatch, StateAsk, StateOffer, StatePart};
 
 #[tactic(auto, unfolding(crate::specs::Messages::ask_at))]
 fn read_ask(alloc: Global, cut: &mut Cursor<'_>) -> Result<Message, ReadError>
@@ -94,6 +95,34 @@ fn read_mark(alloc: Global, cut: &mut Cursor<'_>) -> Result<Message, ReadError>
     Ok(Message::Mark(Signed::<Mark>::read(alloc, cut)?))
 }
 
+#[tactic(auto, unfolding(crate::specs::Messages::decision_at))]
+fn read_decision(alloc: Global, cut: &mut Cursor<'_>) -> Result<Message, ReadError>
+    ensures { Gives result cut.new (decision_at cut.old) }
+{
+    Ok(Message::Decision(ProvenBatch::read(alloc, cut)?))
+}
+
+#[tactic(auto, unfolding(crate::specs::Messages::state_ask_at))]
+fn read_state_ask(cut: &mut Cursor<'_>) -> Result<Message, ReadError>
+    ensures { Gives result cut.new (state_ask_at cut.old) }
+{
+    Ok(Message::StateAsk(StateAsk::read(cut)?))
+}
+
+#[tactic(auto, unfolding(crate::specs::Messages::state_offer_at))]
+fn read_state_offer(alloc: Global, cut: &mut Cursor<'_>) -> Result<Message, ReadError>
+    ensures { Gives result cut.new (state_offer_at cut.old) }
+{
+    Ok(Message::StateOffer(StateOffer::read(alloc, cut)?))
+}
+
+#[tactic(auto, unfolding(crate::specs::Messages::state_part_at))]
+fn read_state_part(alloc: Global, cut: &mut Cursor<'_>) -> Result<Message, ReadError>
+    ensures { Gives result cut.new (state_part_at cut.old) }
+{
+    Ok(Message::StatePart(StatePart::read(alloc, cut)?))
+}
+
 /// Reads what comes after a message's first byte.
 #[tactic(auto, unfolding(crate::specs::Messages::body_at))]
 fn read_body(alloc: Global, kind: u8, cut: &mut Cursor<'_>) -> Result<Message, ReadError>
@@ -106,8 +135,12 @@ fn read_body(alloc: Global, kind: u8, cut: &mut Cursor<'_>) -> Result<Message, R
         4 => read_stop(alloc, cut),
         5 => read_stop_data(alloc, cut),
         6 => read_sync(alloc, cut),
+        7 => read_decision(alloc, cut),
         8 => read_reply(alloc, cut),
-        _ => read_mark(alloc, cut),
+        9 => read_mark(alloc, cut),
+        10 => read_state_ask(cut),
+        11 => read_state_offer(alloc, cut),
+        _ => read_state_part(alloc, cut),
     }
 }
 
@@ -115,14 +148,7 @@ fn read_body(alloc: Global, kind: u8, cut: &mut Cursor<'_>) -> Result<Message, R
 fn is_message_kind(kind: u8) -> bool
     ensures { result ≡ is_kind kind }
 {
-    kind == 1
-        || kind == 2
-        || kind == 3
-        || kind == 4
-        || kind == 5
-        || kind == 6
-        || kind == 8
-        || kind == 9
+    1 <= kind && kind <= 12
 }
 
 #[tactic(auto, unfolding(smart_base::specs::Cuts::ranged))]
@@ -195,8 +221,12 @@ fn kind(message: &Message) -> u8
         Message::Stop(_) => 4,
         Message::StopData(_) => 5,
         Message::Sync(_) => 6,
+        Message::Decision(_) => 7,
         Message::Reply(_) => 8,
         Message::Mark(_) => 9,
+        Message::StateAsk(_) => 10,
+        Message::StateOffer(_) => 11,
+        Message::StatePart(_) => 12,
     }
 }
 
@@ -246,8 +276,12 @@ fn put_content(out: &mut Vec<u8>, message: &Message) -> Result<(), AllocError>
         Message::Stop(stop) => stop.put(out),
         Message::StopData(reported) => put_reported(out, reported),
         Message::Sync(sync) => sync.put(out),
+        Message::Decision(proven) => proven.put(out),
         Message::Reply(reply) => reply.put(out),
         Message::Mark(mark) => mark.put(out),
+        Message::StateAsk(ask) => ask.put(out),
+        Message::StateOffer(offer) => offer.put(out),
+        Message::StatePart(part) => part.put(out),
     }
 }
 
@@ -262,11 +296,14 @@ fn put_message(out: &mut Vec<u8>, message: &Message) -> Result<(), AllocError>
     Ok(())
 }
 
+/// The room with which a message's bytes begin: more than a vote or a request takes.
+const ROOM: usize = 256;
+
 /// The bytes of a message. Error: want of memory.
 pub fn encode(alloc: Global, message: &Message) -> Result<Vec<u8>, AllocError>
     ensures { IfOk result (λ v. v.items ≡ spelling message.now) }
 {
-    let mut out = Vec::new(alloc);
+    let mut out = Vec::with_capacity(alloc, ROOM)?;
     put_message(&mut out, message)?;
     Ok(out)
 }

@@ -2,7 +2,7 @@
 ghost use Rattle.std.specs.Prelude.{◌≡◌, ◌++◌, ◌∷◌, [], IfOk, OnOk, map};
 ghost use Rattle.std.specs.List.{flat_map};
 ghost use Rattle.std.specs.Option.{option_copied};
-ghost use Rattle.smart_messages.specs.Messages.{request_in, proposal_in, vote_in, report_in, slot_of, batch_in, sealed, sealed_of, statements_in, parts_of_evidence, parts_of_lock, in_report, requests_of};
+ghost use Rattle.smart_messages.specs.Messages.{request_in, proposal_in, vote_in, report_in, mark_in, decision_in, slot_of, batch_in, sealed, sealed_of, statements_in, parts_of_evidence, parts_of_lock, in_report, requests_of};
 
 use crate::party::signer_of;
 use crate::regency::{Reported, Stop, Sync};
@@ -15,6 +15,7 @@ use smart_statements::report::{Evidence, LockCertificate, Mark, Report};
 use smart_statements::signed::{Signed, Statement};
 use smart_statements::statement::{Answer, Ballot, Proposal, Request, Slot};
 use std::alloc::{AllocError, Global};
+use transfer_form::transfer::{ProvenBatch, StateAsk, StateOffer, StatePart};
 
 /// A leader's proposal, with its batch.
 #[derive(Drop)]
@@ -23,7 +24,8 @@ pub struct Proposed {
     pub batch: Batch,
 }
 
-/// A message (Mod-SMaRt, EDCC 2012). Each bears the tag of its signer.
+/// A message (Mod-SMaRt, EDCC 2012). Each bears the tag of its signer, but those by which a member
+/// takes over another's replica: what they bring is checked by the tags in it.
 #[derive(Drop)]
 pub enum Message {
     /// ASK: a client asks for an operation, or a member passes its request on.
@@ -38,11 +40,20 @@ pub enum Message {
     StopData(Reported),
     /// SYNC: a leader begins its regency with the reports that it collected.
     Sync(Signed<Sync>),
+    /// DECISION: a member shows a batch that was decided, with the ACCEPTs that prove it.
+    Decision(ProvenBatch),
     /// REPLY: a member answers a client.
     Reply(Signed<Answer>),
     /// MARK: a member states the digest of its replica after a place (checkpoints in turn:
     /// Dura-SMaRt, USENIX ATC 2013).
     Mark(Signed<Mark>),
+    /// STATEASK: a member asks for others' state (collaborative state transfer: Dura-SMaRt, USENIX ATC
+    /// 2013).
+    StateAsk(StateAsk),
+    /// STATEOFFER: a member offers its newest firm snapshot, with marks of its own.
+    StateOffer(StateOffer),
+    /// STATEPART: a member gives a part of its snapshot.
+    StatePart(StatePart),
 }
 
 impl Duplicate for Proposed {
@@ -63,8 +74,12 @@ impl Duplicate for Message {
             Message::Stop(stop) => Ok(Message::Stop(stop.duplicate(alloc)?)),
             Message::StopData(reported) => Ok(Message::StopData(reported.duplicate(alloc)?)),
             Message::Sync(sync) => Ok(Message::Sync(sync.duplicate(alloc)?)),
+            Message::Decision(proven) => Ok(Message::Decision(proven.duplicate(alloc)?)),
             Message::Reply(reply) => Ok(Message::Reply(reply.duplicate(alloc)?)),
             Message::Mark(mark) => Ok(Message::Mark(mark.duplicate(alloc)?)),
+            Message::StateAsk(ask) => Ok(Message::StateAsk(*ask)),
+            Message::StateOffer(offer) => Ok(Message::StateOffer(offer.duplicate(alloc)?)),
+            Message::StatePart(part) => Ok(Message::StatePart(part.duplicate(alloc)?)),
         }
     }
 }
@@ -109,6 +124,26 @@ pub fn report_in(message: &Message) -> Option<&Reported>
     }
 }
 
+/// The mark that a message is, if it is one.
+pub fn mark_in(message: &Message) -> Option<&Signed<Mark>>
+    ensures { option_copied result ≡ mark_in message.now }
+{
+    match message {
+        Message::Mark(mark) => Some(mark),
+        _ => None,
+    }
+}
+
+/// The decided batch that a message shows, if it does.
+pub fn decision_in(message: &Message) -> Option<&ProvenBatch>
+    ensures { option_copied result ≡ decision_in message.now }
+{
+    match message {
+        Message::Decision(proven) => Some(proven),
+        _ => None,
+    }
+}
+
 /// The slot of a PROPOSE or of a vote.
 pub fn slot_of(message: &Message) -> Option<Slot>
     ensures { result ≡ slot_of message.now }
@@ -120,13 +155,14 @@ pub fn slot_of(message: &Message) -> Option<Slot>
     }
 }
 
-/// The batch of a PROPOSE, or of the lock in a STOPDATA.
+/// The batch of a PROPOSE or of a DECISION, or of the lock in a STOPDATA.
 pub fn batch_in(message: &Message) -> Option<&Batch>
     ensures { option_copied result ≡ batch_in message.now }
 {
     match message {
         Message::Propose(proposed) => Some(&proposed.batch),
         Message::StopData(reported) => reported.batch.as_ref(),
+        Message::Decision(proven) => Some(&proven.batch),
         _ => None,
     }
 }
@@ -267,8 +303,18 @@ fn stand_all(
             stand_reports(alloc, reports, found)?;
             Ok(())
         }
+        Message::Decision(proven) => {
+            stand_each(alloc, proven.accepts.as_slice(), found)?;
+            stand_each(alloc, proven.batch.as_slice(), found)?;
+            Ok(())
+        }
         Message::Reply(answer) => stand(alloc, answer, found),
         Message::Mark(mark) => stand(alloc, mark, found),
+        Message::StateOffer(offer) => {
+            stand_each(alloc, offer.marks.as_slice(), found)?;
+            Ok(())
+        }
+        Message::StateAsk(_) | Message::StatePart(_) => Ok(()),
     }
 }
 
