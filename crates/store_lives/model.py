@@ -132,6 +132,35 @@ def stops(entry):
     return len(entry) == STOP
 
 
+def makes(entry, place):
+    """Whether an entry of a book decides or installs a place."""
+    at = {6: 5, 7: 1}.get(entry[0])
+    return at is not None and entry[at : at + 8] == number(place, 8)
+
+
+def cut(place, book):
+    """What is kept of a book beside a checkpoint: the first opening, the greatest promise before the entry that makes the place,
+    the first beginning of that regency, and all from that entry on."""
+    upto = next((i for i, it in enumerate(book) if makes(it, place)), None)
+    if place == 0 or upto is None:
+        return book
+    before = book[:upto]
+    kept = [it for it in before if it[0] == 1][:1]
+    promises = [it for it in before if it[0] == 4]
+    if promises:
+        greatest = max(promises, key=lambda it: it[1:9])
+        kept += [greatest, *[it for it in before if it[0] == 5 and it[1:9] == greatest[1:9]][:1]]
+    return kept + book[upto:]
+
+
+def tail_of(words):
+    """A tail: the number of its last entry that was made, and its entries, or the book of which they are the cut."""
+    made, words = int(words[0]) if words else 0, words[1:]
+    if words[:1] == ["cut"]:
+        return made, cut(int(words[1]), [bytes_of(it) for it in words[2:]])
+    return made, [bytes_of(it) for it in words]
+
+
 class Model:
     """Four devices, and the store or the slots that are open over them, if any are."""
 
@@ -292,6 +321,9 @@ class Model:
             return str(self.sum())
         if verb == "reads":
             return f"{words[0]} {spelled(self.devices[int(words[0])].now)}"
+        if verb == "decide":
+            self.decide(*step.split(" | "))
+            return f"{self.state()}, {len(self.devices[self.generation % 2].now)}"
         if verb == "newest":
             generation, snapshot = newest(self.devices)
             return f"{generation} " + ("none" if snapshot is None else spelled(snapshot))
@@ -310,15 +342,32 @@ class Model:
         if verb == "ask":
             return self.ask(bytes_of(words[0]))
         if verb == "call":
-            return self.call(int(words[0]) if words else 0, [bytes_of(it) for it in words[1:]])
+            return self.call(*tail_of(words))
         assert self.is_plain() or self.is_closed and verb == "append"
         if verb == "append":
             answer = self.start([bytes_of(it) for it in words])
             return answer if answer != "ok" else self.calls(self.is_due, 0, [])
         assert verb == "switch"
-        tail, generation = [bytes_of(it) for it in words[2:]], self.generation + 1
+        tail, generation = tail_of(words[1:]), self.generation + 1
         answer = self.ask(bytes_of(words[0]))
-        return answer if answer != "ok" else self.calls(lambda: self.generation != generation, int(words[1]), tail)
+        return answer if answer != "ok" else self.calls(lambda: self.generation != generation, *tail)
+
+    def decide(self, head, first, each, mark):
+        """Makes a book's entries firm, those of each place and of the marks, and switches at the end of each period."""
+        last, period = map(int, head.split()[1:])
+        book = []
+
+        def add(words, place):
+            added = words.replace("@", f"{place:016x}").split()
+            book.extend(added)
+            self.answer("append", added)
+
+        add(first, 0)
+        for place in range(1, last + 1):
+            add(each, place)
+            if place % period == 0:
+                add(mark, place)
+                self.answer("switch", ["-", str(self.firm), "cut", str(place), *book])
 
     def sum(self):
         """One number of all that the devices hold, and held at their last syncs."""
@@ -498,6 +547,9 @@ FILES = {
     "failures": (23, 10, 6, FAILURES, "devices that fail"),
 }
 
+# the files that were written by hand
+ROWS = ["rows", "promises", "lengths"]
+
 
 def made(name):
     seed, lives, steps, weights, about = FILES[name]
@@ -510,21 +562,29 @@ def made(name):
 
 def differences(name, text):
     """Where the model answers otherwise than a file that was written by hand."""
-    model = None
+    model, names, said = None, [], open("stdout").read().split("\n")
     for number, line in enumerate(text.split("\n"), 1):
         if line.startswith("life "):
             model = Model()
+        elif line.startswith("let "):
+            names.append(line.split(" ", 2)[1:])
         elif line and not line.startswith("#"):
+            for word, words in reversed(names):
+                line = line.replace(word, words)
             step, _, wanted = line.partition(" = ")
             told = model.play(step)
-            if (told or "") != wanted:
+            if wanted == "?":
+                if f"{name}.lives, line {number}: {told}" not in said:
+                    yield f"{name}.lives, line {number}: {told} is not in stdout"
+            elif (told or "") != wanted:
                 yield f"{name}.lives, line {number}: {told} in place of {wanted}"
 
 
 def main():
     if sys.argv[1:] == ["check"]:
         said = [f"{it}.lives is not as the model makes it" for it in FILES if open(f"data/{it}.lives").read() != made(it)]
-        said += differences("rows", open("data/rows.lives").read())
+        for name in ROWS:
+            said += differences(name, open(f"data/{name}.lives").read())
         print(*(said or ["all is as the model says"]), sep="\n")
         return
     for name in FILES:

@@ -1,10 +1,10 @@
-mod Lists
+pub mod Lists
 pub mod Promises
-mod Kept
-mod Places
-mod Cut
-mod CutAgain
-mod CutLawful
-mod CutTidy
-mod CutGrown
-mod CutEntries
+pub mod Kept
+pub mod Places
+pub mod Cut
+pub mod CutAgain
+pub mod CutLawful
+pub mod CutTidy
+pub mod CutGrown
+pub mod CutEntries

@@ -1,6 +1,6 @@
 -- What is kept of a member's entries once its store has a checkpoint. That a checkpoint stands for the log before it is Dura-SMaRt's (USENIX
--- ATC 2013). What is kept beside it is this project's own rule. INTERIM(checkpoints): no rule cuts a book yet.
-use Rattle.std.specs.Prelude.{ℕ, ◌<◌, ◌≤◌, nat_lt, Bool, ◌&&◌, List, [], ◌∷◌, ◌++◌, Option, None, Some, if◌then◌else◌}
+-- ATC 2013). What is kept beside it is this project's own rule.
+use Rattle.std.specs.Prelude.{ℕ, ◌<◌, ◌≤◌, nat_lt, Bool, false, ◌&&◌, List, [], ◌∷◌, ◌++◌, Option, None, Some, if◌then◌else◌}
 use Rattle.std.specs.List.{list_any}
 use Rattle.smart_base.specs.Lists.{or_else}
 use Rattle.vote_book.specs.declared.entry.LogEntry.{LogEntry}
@@ -95,6 +95,23 @@ has_cut place entries = nat_lt 0 place && list_any (makes place) entries
 -- that one on. It is all entries at place 0, or if none of them makes the place.
 abbrev pub cut_at : ℕ → List LogEntry → List LogEntry
 cut_at place entries = if has_cut place entries then kept_of (before_place place entries) ++ from_place place entries else entries
+
+-- an entry that installs a place past this one
+abbrev pub installs_past : ℕ → LogEntry → Bool
+installs_past place (Opened o) = false
+installs_past place (Wrote w) = false
+installs_past place (Accepted a) = false
+installs_past place (Promised p) = false
+installs_past place (Synced s) = false
+installs_past place (Decided d) = false
+installs_past place (Installed i) = nat_lt place i.place
+installs_past place (Marked m) = false
+
+-- The entries before the first one that installs a place past this one. A checkpoint of this place may not stand for what comes after: it would
+-- be restored past the replica.
+abbrev pub until_installed : ℕ → List LogEntry → List LogEntry
+until_installed place [] = []
+until_installed place (e ∷ es) = if installs_past place e then [] else e ∷ until_installed place es
 
 -- ---- premises of the laws
 

@@ -1,5 +1,5 @@
 //! Laws of cuts. They speak of definitions alone. A diary is a member's firm entries of all its lives,
-//! a cut of it is the book of a later life. INTERIM(checkpoints): no rule cuts a book yet.
+//! a cut of it is the book of a later life.
 ghost use Rattle.std.specs.Prelude.{◌≡◌, ◌+◌, ◌<◌, ◌≤◌, ◌++◌, ◌∷◌, [], ◌↔◌, ℕ, List, length, take};
 ghost use Rattle.smart_statements.specs.Batches.{Batch};
 ghost use Rattle.smart_statements.specs.declared.report.Report.{Report};

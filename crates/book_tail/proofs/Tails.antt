@@ -10,7 +10,7 @@ use Rattle.vote_book.specs.declared.entry.Start.{Start}
 use Rattle.vote_book.specs.Entries.{entry_text}
 use Rattle.vote_book.specs.Admission.{makes}
 use Rattle.vote_book.specs.Standing.{first_start}
-use Rattle.book_laws.specs.BookCuts.{first_opening, greater_promise, greatest_promise, as_opened, as_synced, as_promised, kept_of, before_place, from_place, has_cut, cut_at}
+use Rattle.book_laws.specs.BookCuts.{first_opening, greater_promise, greatest_promise, as_opened, as_synced, as_promised, kept_of, before_place, from_place, has_cut, cut_at, installs_past, until_installed}
 use Rattle.book_laws.proofs.Promises.{greater_none, greater_assoc}
 use Rattle.book_tail.specs.Tails.{is_opening, is_start, found}
 
@@ -176,3 +176,58 @@ at_zero place entries is = rw is refl
 -- the texts of both parts are those of the cut
 pub cut_texts : (place : ℕ) (entries xs ys : List LogEntry) → cut_at place entries ≡ xs ++ ys → map entry_text xs ++ map entry_text ys ≡ map entry_text (cut_at place entries)
 cut_texts place entries xs ys is = sym (map-append entry_text xs ys) ∙ ap (λ (zs : List LogEntry). map entry_text zs) (sym is)
+
+-- ---- where a later place is installed
+
+-- how many entries stand before the first one that installs a place past this one
+abbrev count_until : ℕ → List LogEntry → ℕ
+count_until place entries = position_or_len (installs_past place) entries
+
+until_step : (place : ℕ) (e : LogEntry) (es : List LogEntry) (t : Bool) → take (count_until place es) es ≡ until_installed place es
+    → take (cond (not t) (1 + count_until place es) 0) (e ∷ es) ≡ cond t [] (e ∷ until_installed place es)
+until_step place e es true rest = refl
+until_step place e es false rest =
+    let next : 1 + count_until place es ≡ suc (count_until place es) = omega arith in
+    ap (λ n. take n (e ∷ es)) next ∙ ap (λ (xs : List LogEntry). e ∷ xs) rest
+
+until_front : (place : ℕ) (es : List LogEntry) → take (count_until place es) es ≡ until_installed place es
+until_front place [] = refl
+until_front place (e ∷ es) = until_step place e es (installs_past place e) (until_front place es)
+
+until_there : (place k : ℕ) (es : List LogEntry) (t : Bool) → nat_lt (count_until place es) (length es) ≡ t → cond t (Some (count_until place es)) None ≡ Some k
+    → (count_until place es ≡ k) × (t ≡ true)
+until_there place k es true lt is = ((cc), refl)
+until_there place k es false lt is = absurd (cc)
+
+none_step : (place : ℕ) (e : LogEntry) (es : List LogEntry) (t : Bool) → (nat_lt (count_until place es) (length es) ≡ false → until_installed place es ≡ es)
+    → nat_lt (cond (not t) (1 + count_until place es) 0) (length (e ∷ es)) ≡ false → cond t [] (e ∷ until_installed place es) ≡ e ∷ es
+none_step place e es true rest none = absurd (omega (arith, ltb-false 0 (suc (length es)) none))
+none_step place e es false rest none =
+    ap (λ (xs : List LogEntry). e ∷ xs) (rest (le-ltb (count_until place es) (length es) (omega (arith, ltb-false (1 + count_until place es) (suc (length es)) none))))
+
+until_none : (place : ℕ) (es : List LogEntry) → nat_lt (count_until place es) (length es) ≡ false → until_installed place es ≡ es
+until_none place [] none = refl
+until_none place (e ∷ es) none = none_step place e es (installs_past place e) (until_none place es) none
+
+until_absent : (place : ℕ) (es : List LogEntry) (t : Bool) → nat_lt (count_until place es) (length es) ≡ t → cond t (Some (count_until place es)) None ≡ None → t ≡ false
+until_absent place es true lt is = absurd (cc)
+until_absent place es false lt is = refl
+
+-- the index of the entry that installs a later place is one of theirs
+pub until_within : (place k : ℕ) (entries : List LogEntry) → position (installs_past place) entries ≡ Some k → k < length entries
+until_within place k entries is =
+    let there = until_there place k entries (nat_lt (count_until place entries) (length entries)) refl is in
+    let low = ltb-true (count_until place entries) (length entries) there.1 in
+    let same = there.0 in
+    omega (arith, low, same)
+
+-- the entries before it are those until then
+pub until_at : (place k : ℕ) (entries : List LogEntry) → position (installs_past place) entries ≡ Some k → take k entries ≡ until_installed place entries
+until_at place k entries is =
+    let there = until_there place k entries (nat_lt (count_until place entries) (length entries)) refl is in
+    ap (λ n. take n entries) (sym there.0) ∙ until_front place entries
+
+-- without such an entry they are all
+pub until_all : (place : ℕ) (entries : List LogEntry) → position (installs_past place) entries ≡ None → entries ≡ until_installed place entries
+until_all place entries none =
+    sym (until_none place entries (until_absent place entries (nat_lt (count_until place entries) (length entries)) refl none))

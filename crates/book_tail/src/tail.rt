@@ -5,7 +5,7 @@ ghost use Rattle.std.specs.Option.{option_copied};
 ghost use Rattle.vote_book.specs.Entries.{entry_text};
 ghost use Rattle.vote_book.specs.Admission.{makes};
 ghost use Rattle.vote_book.specs.BookIndex.{is_kept_with};
-ghost use Rattle.book_laws.specs.BookCuts.{promise_by, greater_promise, greatest_promise, kept_of, cut_at};
+ghost use Rattle.book_laws.specs.BookCuts.{promise_by, greater_promise, greatest_promise, kept_of, cut_at, installs_past, until_installed};
 ghost use Rattle.book_tail.specs.Tails.{is_opening, is_start, found, AreTexts};
 
 use smart_base::number::{Place, Regency, ViewNo};
@@ -112,6 +112,46 @@ fn first_start(entries: &[LogEntry], view: ViewNo, regency: Regency) -> Option<&
     ensures { option_copied result ≡ find (is_start view regency) entries.now }
 {
     entries.iter().find(|entry| is_start(view, regency, entry))
+}
+
+/// Whether an entry installs a place past this one.
+fn installs_past(place: Place, entry: &LogEntry) -> bool
+    ensures { result ≡ installs_past place entry.now }
+{
+    match entry {
+        LogEntry::Installed(installation) => place < installation.place,
+        LogEntry::Opened(_)
+        | LogEntry::Wrote(_)
+        | LogEntry::Accepted(_)
+        | LogEntry::Promised(_)
+        | LogEntry::Synced(_)
+        | LogEntry::Decided(_)
+        | LogEntry::Marked(_) => false,
+    }
+}
+
+/// The index of the first entry that installs a place past this one.
+#[tactic(auto, using(crate::proofs::Tails::until_within))]
+fn installer_index(entries: &[LogEntry], place: Place) -> Option<usize>
+    ensures is { result ≡ position (installs_past place) entries.now }
+    ensures within { IfSome result (λ index. index < length entries.now) }
+{
+    entries.iter().position(|entry| installs_past(place, entry))
+}
+
+/// The entries before the first one that installs a place past this one. The later ones wait for the
+/// switch to that place.
+#[tactic(auto, using(crate::proofs::Tails::until_at, crate::proofs::Tails::until_all))]
+pub fn until_installed(entries: &[LogEntry], place: Place) -> &[LogEntry]
+    ensures { result.now ≡ until_installed place entries.now }
+{
+    match installer_index(entries, place) {
+        None => entries,
+        Some(index) => {
+            let (before, _rest) = entries.split_at(index);
+            before
+        }
+    }
 }
 
 // ---- their bytes

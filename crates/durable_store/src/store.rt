@@ -42,7 +42,7 @@ pub struct Store<D: Disk> {
 }
 
 impl<D: Disk> Store<D> {
-    ghost use Rattle.std.specs.Prelude.{◌≡◌, ◌≤◌, ◌⊎◌, ◌+◌, ◌++◌, ℕ, min, List, [], length, drop, None, not, true, false, IfOk, OnOk, OnErr, IsErrOf};
+    ghost use Rattle.std.specs.Prelude.{◌≡◌, ◌≤◌, ◌⊎◌, ◌+◌, ◌++◌, ℕ, min, List, [], length, drop, None, is_some, not, true, false, IfOk, OnOk, OnErr, IsErrOf};
     ghost use Rattle.store_form.specs.Ends.{Closes};
     ghost use Rattle.store_laws.specs.Restored.{Images};
     ghost use Rattle.store_laws.specs.Firm.{GroupAdds};
@@ -329,6 +329,13 @@ impl<D: Disk> Store<D> {
         ensures { result ≡ is_due E.stops (state_of D.cells self.now) }
     {
         self.plan.is_due::<E>()
+    }
+
+    /// Whether a switch waits.
+    pub fn asks(&self) -> bool
+        ensures { result ≡ is_some self.now.plan.asked }
+    {
+        self.plan.asked.is_some()
     }
 
     /// The devices, taken out of the store.

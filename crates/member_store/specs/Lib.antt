@@ -1,4 +1,4 @@
 pub mod Members
 pub mod Left
 pub mod Devices
-pub mod Books
+pub mod Cuts

@@ -1,13 +1,14 @@
 //! The store of a member.
-ghost use Rattle.std.specs.Prelude.{◌≡◌, ◌&&◌, [], true, false, map, Ok, IfOk, IfErr, OnOk, OnErr, if◌then◌else◌, None};
+ghost use Rattle.std.specs.Prelude.{◌≡◌, ◌<◌, ◌+◌, ◌^◌, ◌&&◌, [], true, false, length, map, is_some, Ok, IfOk, IfErr, OnOk, OnErr, if◌then◌else◌, None};
 ghost use Rattle.disk_model.specs.Cells.{settled};
 ghost use Rattle.disk_model.specs.Memory.{plain_cells};
 ghost use Rattle.vote_book.specs.Entries.{entry_text};
 ghost use Rattle.store_form.specs.Spelling.{IsEntry};
-ghost use Rattle.store_laws.specs.Lives.{no_bytes};
+ghost use Rattle.store_laws.specs.Lives.{no_bytes, nothing};
 ghost use Rattle.store_laws.specs.Restored.{restores};
-ghost use Rattle.store_laws.specs.States.{store_opened, store_called, given, is_due};
-ghost use Rattle.store_laws.specs.Unswitched.{never, no_tail};
+ghost use Rattle.store_laws.specs.States.{store_opened, store_called, given, asked, is_due, wants_tail};
+ghost use Rattle.store_laws.specs.Stops.{is_installed};
+ghost use Rattle.store_laws.specs.Unswitched.{no_tail};
 ghost use Rattle.store_plan.specs.Fit.{AreEntries};
 ghost use Rattle.durable_store.specs.Disks.{contents, AreSettled};
 ghost use Rattle.durable_store.specs.Stores.{state_of};
@@ -24,14 +25,24 @@ use smart_base::sequence::{Bytes, Sequence};
 use std::alloc::{AllocError, Global};
 use std::marker::Model;
 use std::mem;
-use store_laws::job::Tail;
-use store_plan::stops::NeverStops;
+use store_laws::job::{Kept, Tail};
+use store_plan::stops::InstallsStop;
 use vote_book::codec::encode_entry;
 use vote_book::entry::LogEntry;
 use world_rules::crash::{Image, Patch};
 
 /// The greatest length of an entry, in bytes.
 const ENTRY_BYTES: usize = 0xffff_ffff;
+
+/// What empty devices restore.
+fn nothing(alloc: Global) -> Kept
+    ensures { result ≡ nothing }
+{
+    Kept {
+        present: None,
+        entries: Sequence::new(alloc),
+    }
+}
 
 #[derive(Drop)]
 enum Devices {
@@ -49,20 +60,20 @@ impl Devices {
         ensures { (state_in self.now).runs ≡ false → store_opened (bytes_held (state_in self.now).state) ≡ (state_in self.now).state }
     {}
 
-    /// Opens a store over the devices, and gives the entries that it restores. Error: want of memory;
-    /// the devices come back then.
-    fn opened(self, alloc: Global) -> (Devices, Result<Sequence<Bytes>, AllocError>)
+    /// Opens a store over the devices, and gives what it restores. Error: want of memory; the devices
+    /// come back then.
+    fn opened(self, alloc: Global) -> (Devices, Result<Kept, AllocError>)
         requires { AreSound self }
         ensures sound { AreSound result.0 }
         ensures state { OnOk result.1 (state_in result.0 ≡ record { runs = true; state = (state_in self).state }) }
-        ensures restores { IfOk result.1 (λ entries. (state_in self).runs ≡ false → entries ≡ (restores (bytes_held (state_in self).state)).entries) }
+        ensures restores { IfOk result.1 (λ kept. (state_in self).runs ≡ false → kept ≡ restores (bytes_held (state_in self).state)) }
         ensures err { OnErr result.1 (state_in result.0 ≡ state_in self) }
-        ensures runs { (state_in self).runs ≡ true → result.1 ≡ Ok [] }
+        ensures runs { (state_in self).runs ≡ true → result.1 ≡ Ok nothing }
     {
         match self {
-            Devices::Running(store) => (Devices::Running(store), Ok(Sequence::new(alloc))),
+            Devices::Running(store) => (Devices::Running(store), Ok(nothing(alloc))),
             Devices::Stopped(disks) => match reopen(alloc, disks) {
-                Ok((store, kept)) => (Devices::Running(store), Ok(kept.entries)),
+                Ok((store, kept)) => (Devices::Running(store), Ok(kept)),
                 Err((_, disks)) => (Devices::Stopped(disks), Err(AllocError)),
             },
         }
@@ -140,6 +151,18 @@ fn texts(alloc: Global, entries: &[LogEntry]) -> Result<Sequence<Bytes>, AllocEr
     Ok(texts)
 }
 
+/// The generation to which a switch with this snapshot leads. Error: there is none, or no slot has
+/// room for the snapshot.
+fn next_generation(generation: u64, snapshot: &[u8]) -> Result<u64, AllocError>
+    ensures next { IfOk result (λ next. next ≡ generation + 1) }
+    ensures short { OnOk result (length snapshot.now < 2 ^ 32) }
+{
+    if generation < u64::MAX && snapshot.len() <= ENTRY_BYTES {
+        return Ok(generation + 1);
+    }
+    Err(AllocError)
+}
+
 /// The devices that a crash leaves of a store, as a script says.
 #[tactic(auto, unfolding(world_rules::specs::Crashes::wrong_images))]
 fn disks_left(
@@ -197,29 +220,82 @@ impl MemberStore {
 
     /// Whether there is a device call to make.
     pub fn is_due(&self) -> bool
-        ensures { result ≡ (self.now.runs && is_due never self.now.state) }
+        ensures { result ≡ (self.now.runs && is_due is_installed self.now.state) }
     {
         match &self.devices {
-            Devices::Running(store) => store.is_due::<NeverStops>(),
+            Devices::Running(store) => store.is_due::<InstallsStop>(),
             Devices::Stopped(_) => false,
         }
     }
 
-    /// Makes the next device call, if there is one. Error: want of memory.
-    pub fn call(&mut self) -> Result<(), AllocError>
-        ensures runs { OnOk result (self.old.runs ≡ true → self.new ≡ record { runs = true; state = store_called never no_tail self.old.state }) }
+    /// Whether the next call writes the tail of a new log.
+    pub fn wants_tail(&self) -> bool
+        ensures { result ≡ (self.now.runs && wants_tail self.now.state) }
+    {
+        match &self.devices {
+            Devices::Running(store) => store.wants_tail(),
+            Devices::Stopped(_) => false,
+        }
+    }
+
+    /// Whether a switch waits.
+    pub fn asks(&self) -> bool
+        ensures { result ≡ (self.now.runs && is_some self.now.state.asked) }
+    {
+        match &self.devices {
+            Devices::Running(store) => store.asks(),
+            Devices::Stopped(_) => false,
+        }
+    }
+
+    /// A tail of no entry, for a call that writes none.
+    pub fn no_tail(&self) -> Tail
+        ensures is { result ≡ no_tail }
+        ensures fit { AreEntries result.entries }
+    {
+        Tail {
+            made: 0,
+            entries: Sequence::new(self.alloc),
+        }
+    }
+
+    /// Makes the next device call, if there is one. The tail is written if `wants_tail` holds before.
+    /// Error: want of memory.
+    pub fn call(&mut self, tail: &Tail) -> Result<(), AllocError>
+        requires { AreEntries tail.now.entries }
+        ensures runs { OnOk result (self.old.runs ≡ true → self.new ≡ record { runs = true; state = store_called is_installed tail.now self.old.state }) }
         ensures stopped { self.old.runs ≡ false → (result ≡ Ok tt) × (self.new ≡ self.old) }
     {
         let alloc = self.alloc;
         let Devices::Running(store) = &mut self.devices else {
             return Ok(());
         };
-        let tail = Tail {
-            made: 0,
-            entries: Sequence::new(alloc),
-        };
-        match store.next_call::<NeverStops>(alloc, &tail) {
+        match store.next_call::<InstallsStop>(alloc, tail) {
             Ok(_) => Ok(()),
+            Err(_) => Err(AllocError),
+        }
+    }
+
+    /// Asks for a switch to the next generation, with this snapshot. It waits, and one that waited is
+    /// forgotten. A store that does not run is not asked. Error: want of memory, also for a snapshot
+    /// that no slot has room for, or after the last generation.
+    pub fn ask(&mut self, snapshot: Bytes) -> Result<(), AllocError>
+        ensures runs { OnOk result (self.old.runs ≡ true → self.new ≡ record { runs = true; state = asked snapshot self.old.state }) }
+        ensures stopped { self.old.runs ≡ false → (result ≡ Ok tt) × (self.new ≡ self.old) }
+    {
+        let alloc = self.alloc;
+        let Devices::Running(store) = &mut self.devices else {
+            return Ok(());
+        };
+        let generation = next_generation(store.generation(), snapshot.as_slice())?;
+        match store.start(
+            alloc,
+            Job::Switch {
+                generation,
+                snapshot,
+            },
+        ) {
+            Ok(()) => Ok(()),
             Err(_) => Err(AllocError),
         }
     }
@@ -270,17 +346,17 @@ impl MemberStore {
         Ok(())
     }
 
-    /// Restarts the store over what the crash has left, and gives the entries that it restores. A
-    /// store that runs stays as it is. Error: want of memory.
-    pub fn restart(&mut self) -> Result<Sequence<Bytes>, AllocError>
+    /// Restarts the store over what the crash has left, and gives what it restores. A store that runs
+    /// stays as it is, and gives nothing. Error: want of memory.
+    pub fn restart(&mut self) -> Result<Kept, AllocError>
         ensures opened { OnOk result (self.old.runs ≡ false → self.new ≡ record { runs = true; state = self.old.state }) }
-        ensures restores { IfOk result (λ entries. self.old.runs ≡ false → entries ≡ (restores (bytes_held self.old.state)).entries) }
+        ensures restores { IfOk result (λ kept. self.old.runs ≡ false → kept ≡ restores (bytes_held self.old.state)) }
         ensures err { OnErr result (self.new ≡ self.old) }
-        ensures runs { self.old.runs ≡ true → (result ≡ Ok []) × (self.new ≡ self.old) }
+        ensures runs { self.old.runs ≡ true → (result ≡ Ok nothing) × (self.new ≡ self.old) }
     {
         let alloc = self.alloc;
-        let nothing = Devices::Stopped(empty_disks(alloc));
-        let devices = mem::replace(&mut self.devices, nothing);
+        let empty = Devices::Stopped(empty_disks(alloc));
+        let devices = mem::replace(&mut self.devices, empty);
         let (devices, answer) = devices.opened(alloc);
         self.devices = devices;
         answer

@@ -31,7 +31,7 @@ odd_clash n one none =
     cc
 
 -- the next generation uses the other slot
-odd_next : (n : ℕ) → is_odd (n + 1) ≡ not (is_odd n)
+pub odd_next : (n : ℕ) → is_odd (n + 1) ≡ not (is_odd n)
 odd_next n = by (eqb (n % 2) 1) refl
   where
     by : (t : Bool) → eqb (n % 2) 1 ≡ t → eqb ((n + 1) % 2) 1 ≡ not t

@@ -1,15 +1,19 @@
 -- A switch writes the tail that it is given, and keeps the new generation with that tail's entries.
-use Rattle.std.proofs.Common.{◌≡◌, ◌⊎◌, inl, inr, ℕ, ◌+◌, ◌-◌, nat_lt, Bool, true, false, not, cond, List, [], ◌∷◌, ◌++◌, length, take, Option, Some, None, refl, sym, ◌∙◌, ap, subst}
-use Rattle.std.proofs.lemmas.List.{take-append-drop}
+use Rattle.std.proofs.Common.{◌≡◌, ◌⊎◌, inl, inr, ℕ, ◌+◌, ◌-◌, nat_lt, Bool, true, false, not, cond, List, [], ◌∷◌, ◌++◌, length, take, Option, Some, None, refl, sym, ◌∙◌, ap, subst, arith, length-append}
+use Rattle.std.proofs.lemmas.List.{append-nil, drop_all, take-append-drop}
+use Rattle.disk_model.specs.Cells.{put}
 use Rattle.disk_model.specs.declared.call.DeviceCall.{DeviceCall}
 use Rattle.store_form.specs.Spelling.{Group, IsGroup, group_text, checkpoint_text}
 use Rattle.store_form.specs.declared.checkpoint.Checkpoint.{Checkpoint}
+use Rattle.batch_log.specs.LogCalls.{anew_text}
+use Rattle.checkpoint_store.specs.Slots.{is_odd}
 use Rattle.store_laws.specs.Restored.{Images, restores, switched}
-use Rattle.store_laws.specs.States.{StoreState, greatest, side, slot_gate_of, is_torn, switch_calls, Begun, Close, Repair, Switch, of_group, of_asked, group_of, due_job, begins, firm_by, advanced, ends, job_called, MayLeave, devices_during}
+use Rattle.store_laws.specs.Stakes.{present_log}
+use Rattle.store_laws.specs.States.{Devices, StoreState, greatest, side, log_at, slot_gate_of, is_torn, switch_calls, Begun, Close, Repair, Switch, of_group, of_asked, group_of, due_job, begins, firm_by, advanced, ends, job_called, MayLeave, devices_during}
 use Rattle.store_laws.specs.Lives.{StoreNext, Either}
 use Rattle.store_laws.specs.Stands.{Aim, at_rest, Runs, OwnRests, IsOwn, aim_called, aim_after, aim_begins}
 use Rattle.store_laws.specs.Firm.{SwitchCounts, KeepsWhatBecameFirm}
-use Rattle.store_laws.specs.Tails.{aimed_at, tail_after, OneTail, TailLeft, stake_before, SwitchesBy, HasSwitched, run_tail}
+use Rattle.store_laws.specs.Tails.{aimed_at, tail_after, OneTail, TailLeft, stake_before, devices_then, next_log, LogLeft, SwitchesBy, HasSwitched, run_tail}
 use Rattle.store_laws.specs.declared.job.Kept.{Kept}
 use Rattle.store_laws.specs.declared.job.Tail.{Tail}
 use Rattle.store_laws.specs.declared.job.Gate.{Gate}
@@ -20,6 +24,7 @@ use Rattle.store_laws.specs.declared.job.Ending.TheVariants.{Switches}
 use Rattle.store_laws.specs.declared.job.StoreCall.{StoreCall}
 use Rattle.store_laws.specs.declared.job.StoreCall.TheVariants.{On, WriteTail}
 use Rattle.store_laws.proofs.Restores.{next_restores}
+use Rattle.store_laws.proofs.SwitchBegins.{odd_next}
 use Rattle.store_laws.proofs.Goes.{own_still, own_leaves, crash_during}
 use Rattle.store_laws.proofs.AnyGoes.{some_switch}
 use Rattle.store_laws.proofs.Given.{calm_stake}
@@ -39,6 +44,20 @@ one_tail odd Closed text = tt
 one_tail odd Torn text = tt
 one_tail odd Open text = tt
 
+-- a write over an empty log leaves its bytes alone
+anew : (text : List ℕ) → put 0 text [] ≡ text
+anew text = ap (λ (l : List ℕ). text ++ l) (drop_all (0 + length text) [] (omega arith)) ∙ append-nil text
+
+log_anew : (odd : Bool) (gate : Gate) (text : List ℕ) (d : Devices) (tail : Tail) → (log_at odd (devices_then odd tail (switch_calls odd gate text) d)).now ≡ anew_text tail.entries
+log_anew false Absent text d tail = anew (anew_text tail.entries)
+log_anew false Closed text d tail = anew (anew_text tail.entries)
+log_anew false Torn text d tail = anew (anew_text tail.entries)
+log_anew false Open text d tail = anew (anew_text tail.entries)
+log_anew true Absent text d tail = anew (anew_text tail.entries)
+log_anew true Closed text d tail = anew (anew_text tail.entries)
+log_anew true Torn text d tail = anew (anew_text tail.entries)
+log_anew true Open text d tail = anew (anew_text tail.entries)
+
 same_stake : (calls : List StoreCall) (kept : Kept) → kept ≡ stake_before calls kept kept
 same_stake [] kept = refl
 same_stake (call ∷ []) kept = refl
@@ -51,6 +70,7 @@ calm_begins s a snapshot even odd_is =
     record {
       runs = some_switch (not (side s)) (slot_gate_of (not (side s)) s) text;
       tail_left = one_tail (not (side s)) (slot_gate_of (not (side s)) s) text;
+      log_left = λ tail. log_anew (not (side s)) (slot_gate_of (not (side s)) s) text s.devices tail;
       kept_is = refl;
       stake_is = same_stake (begins (Switch snapshot) s).running a.kept;
       gated_is = refl;
@@ -74,6 +94,10 @@ left_tail : (before : Option Tail) (device : Device) (call : DeviceCall) (left :
 left_tail None device call left one = one
 left_tail (Some tail) device call left plain = plain
 
+left_log : (before : Option Tail) (tail : Tail) (device : Device) (call : DeviceCall) (left : List StoreCall) (s : StoreState) → LogLeft before (On device call ∷ left) s → LogLeft before left (advanced tail (On device call) left s)
+left_log None tail device call left s log = log
+left_log (Some written) tail device call left s log = log
+
 new_is : (next is : Checkpoint) (tail : Group) → is ≡ next → switched is tail ≡ switched next tail
 new_is next is tail same = ap (λ (x : Checkpoint). switched x tail) same
 
@@ -82,6 +106,7 @@ pub tail_goes : (kept : Kept) (next : Checkpoint) (before : Option Tail) (s : St
 tail_goes kept next before s a tail (On device call) more [] w = record {
   runs = refl;
   tail_left = left_tail before device call (more ∷ []) w.tail_left;
+  log_left = left_log before tail device call (more ∷ []) s w.log_left;
   kept_is = w.kept_is;
   stake_is = w.gated_is;
   gated_is = w.gated_is;
@@ -95,6 +120,7 @@ tail_goes kept next before s a tail (On device call) more [] w = record {
 tail_goes kept next before s a tail (On device call) more (last ∷ left) w = record {
   runs = refl;
   tail_left = left_tail before device call (more ∷ (last ∷ left)) w.tail_left;
+  log_left = left_log before tail device call (more ∷ (last ∷ left)) s w.log_left;
   kept_is = w.kept_is;
   stake_is = w.stake_is;
   gated_is = w.gated_is;
@@ -109,6 +135,7 @@ tail_goes kept next (Some written) s a tail WriteTail more left w = absurd w.tai
 tail_goes kept next None s a tail WriteTail more [] w = record {
   runs = refl;
   tail_left = w.tail_left;
+  log_left = w.log_left tail;
   kept_is = w.kept_is;
   stake_is = new_is next a.next tail.entries w.next_is;
   gated_is = new_is next a.next tail.entries w.next_is;
@@ -122,6 +149,7 @@ tail_goes kept next None s a tail WriteTail more [] w = record {
 tail_goes kept next None s a tail WriteTail more (last ∷ left) w = record {
   runs = refl;
   tail_left = w.tail_left;
+  log_left = w.log_left tail;
   kept_is = w.kept_is;
   stake_is = w.stake_is;
   gated_is = new_is next a.next tail.entries w.next_is;
@@ -136,8 +164,9 @@ tail_goes kept next None s a tail WriteTail more (last ∷ left) w = record {
 -- ---- a switch ends
 
 -- a store that has switched: no job runs, and no gate is torn
-record Ended (generation end : ℕ) (s : StoreState) : Type 0 where
+record Ended (devices : Devices) (generation end : ℕ) (s : StoreState) : Type 0 where
   pub idle : s.running ≡ []
+  pub devices_are : s.devices ≡ devices
   pub end_is : s.end ≡ end
   pub none_added : s.adding ≡ []
   pub generation_is : s.generation ≡ generation + 1
@@ -149,20 +178,28 @@ calm_or_open : (t : Bool) (gate : Gate) → is_torn gate ≡ false → (is_torn 
 calm_or_open true gate calm = (refl, calm)
 calm_or_open false gate calm = (calm, refl)
 
-ended : (ending : Ending) (end last : ℕ) (s : StoreState) → ending ≡ Switches end last → is_torn s.even ≡ false → is_torn s.odd ≡ false → Ended s.generation end (ends ending s)
+ended : (ending : Ending) (end last : ℕ) (s : StoreState) → ending ≡ Switches end last → is_torn s.even ≡ false → is_torn s.odd ≡ false → Ended s.devices s.generation end (ends ending s)
 ended ending end last s is even odd_is =
-    subst (λ (e : Ending). Ended s.generation end (ends e s)) (sym is)
-    (record { idle = refl; end_is = refl; none_added = refl; generation_is = refl; even_calm = (calm_or_open (side s) s.even even).0; odd_calm = (calm_or_open (side s) s.odd odd_is).1; calm = refl })
+    subst (λ (e : Ending). Ended s.devices s.generation end (ends e s)) (sym is)
+    (record { idle = refl; devices_are = refl; end_is = refl; none_added = refl; generation_is = refl; even_calm = (calm_or_open (side s) s.even even).0; odd_calm = (calm_or_open (side s) s.odd odd_is).1; calm = refl })
 
-last_call : (given : Tail) (next : Checkpoint) (s : StoreState) (a : Aim) (other : Kept) → s.ending ≡ Switches (1 + length (group_text given.entries)) given.made → is_torn s.even ≡ false → is_torn s.odd ≡ false → next.generation ≡ s.generation + 1
+text_long : (g : Group) → length (anew_text g) ≡ 2 + length (group_text g)
+text_long g = let both : length (group_text g ++ 0 ∷ []) ≡ length (group_text g) + 1 = length-append (group_text g) (0 ∷ []) in omega (arith, both)
+
+last_call : (given : Tail) (next : Checkpoint) (s : StoreState) (a : Aim) (other : Kept) → next_log given [] s ≡ anew_text given.entries → s.ending ≡ Switches (1 + length (group_text given.entries)) given.made → is_torn s.even ≡ false → is_torn s.odd ≡ false → next.generation ≡ s.generation + 1
     → a.then ≡ switched next given.entries → IsOwn (ends s.ending s) (at_rest a.then other a.next) → HasSwitched next given (ends s.ending s) (at_rest a.then other a.next)
-last_call given next s a other is even odd_is generation then_is own =
+last_call given next s a other log is even odd_is generation then_is own =
     let e = ended s.ending (1 + length (group_text given.entries)) given.made s is even odd_is in
     let other_is = calm_stake (ends s.ending s) (at_rest a.then other a.next) e.idle e.even_calm e.odd_calm e.calm own ∙ then_is in
+    let log_is : present_log (ends s.ending s) ≡ anew_text given.entries =
+    ap (λ (d : Devices). (log_at (side (ends s.ending s)) d).now) e.devices_are
+    ∙ (ap (λ (odd : Bool). (log_at odd s.devices).now) (ap is_odd e.generation_is ∙ odd_next s.generation) ∙ log) in
     record {
       idle = e.idle;
       generation_is = e.generation_is ∙ sym generation;
       end_is = e.end_is;
+      log_is = log_is;
+      long_is = ap (λ (bytes : List ℕ). length bytes) log_is ∙ text_long given.entries;
       none_added = e.none_added;
       kept_is = then_is;
       stake_is = other_is;
@@ -179,7 +216,7 @@ tail_ends kept next (Some given) s a tail (On device call) other w own = (
   (
     refl,
     (
-      last_call given next (advanced tail (On device call) [] s) (aim_called tail (On device call) [] a) other w.ending_is w.even_calm w.odd_calm w.generation_is w.then_is own,
+      last_call given next (advanced tail (On device call) [] s) (aim_called tail (On device call) [] a) other w.log_left w.ending_is w.even_calm w.odd_calm w.generation_is w.then_is own,
       switch_counts tail (On device call) s (1 + length (group_text given.entries)) given.made w.ending_is,
     ),
   ),
@@ -189,7 +226,7 @@ tail_ends kept next None s a tail WriteTail other w own = (
   (
     refl,
     (
-      last_call tail next (advanced tail WriteTail [] s) (aim_called tail WriteTail [] a) other refl w.even_calm w.odd_calm w.generation_is (new_is next a.next tail.entries w.next_is) own,
+      last_call tail next (advanced tail WriteTail [] s) (aim_called tail WriteTail [] a) other (w.log_left tail) refl w.even_calm w.odd_calm w.generation_is (new_is next a.next tail.entries w.next_is) own,
       switch_counts tail WriteTail s (1 + length (group_text tail.entries)) tail.made refl,
     ),
   ),

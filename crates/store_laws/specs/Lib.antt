@@ -11,3 +11,4 @@ pub mod Unswitched
 pub mod Stakes
 pub mod Logs
 pub mod Asked
+pub mod Stops

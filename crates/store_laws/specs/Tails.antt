@@ -1,16 +1,21 @@
 -- A switch and its tail: what it aims at before the tail is written and after it, and what it has reached at its end.
-use Rattle.std.specs.Prelude.{◌≡◌, ◌≤◌, ◌<◌, ◌⊎◌, ◌+◌, ℕ, Bool, true, false, List, [], ◌∷◌, length, Option, Some, None}
+use Rattle.std.specs.Prelude.{◌≡◌, ◌≤◌, ◌<◌, ◌⊎◌, ◌+◌, ℕ, Bool, true, false, not, List, [], ◌∷◌, length, Option, Some, None}
+use Rattle.disk_model.specs.DeviceCalls.{made}
+use Rattle.disk_model.specs.declared.call.DeviceCall.TheVariants.{Write}
 use Rattle.store_form.specs.Spelling.{group_text}
 use Rattle.store_form.specs.declared.checkpoint.Checkpoint.{Checkpoint}
+use Rattle.batch_log.specs.LogCalls.{anew_text}
 use Rattle.store_laws.specs.Restored.{switched}
-use Rattle.store_laws.specs.States.{StoreState, is_torn, some, Switch, due_job}
+use Rattle.store_laws.specs.States.{Devices, StoreState, side, log_at, change, is_torn, some, Switch, due_job}
 use Rattle.store_laws.specs.Stands.{Aim, IsOwn}
+use Rattle.store_laws.specs.Stakes.{present_log}
 use Rattle.store_laws.specs.Runs.{called_times}
 use Rattle.store_laws.specs.Books.{NoTail}
 use Rattle.store_laws.specs.declared.job.Kept.{Kept}
 use Rattle.store_laws.specs.declared.job.Tail.{Tail}
 use Rattle.store_laws.specs.declared.job.Ending.{Ending}
 use Rattle.store_laws.specs.declared.job.Ending.TheVariants.{Closes, Repairs, Adds, Switches}
+use Rattle.store_laws.specs.declared.job.Device.TheVariants.{Log}
 use Rattle.store_laws.specs.declared.job.StoreCall.{StoreCall}
 use Rattle.store_laws.specs.declared.job.StoreCall.TheVariants.{On, WriteTail}
 
@@ -46,10 +51,26 @@ stake_before [] kept aimed = aimed
 stake_before (call ∷ []) kept aimed = aimed
 stake_before (call ∷ (more ∷ left)) kept aimed = kept
 
+-- devices after these calls of a switch, whose log is that of `odd`, with this tail
+abbrev pub devices_then : Bool → Tail → List StoreCall → Devices → Devices
+devices_then odd tail [] d = d
+devices_then odd tail (On device call ∷ left) d = devices_then odd tail left (change (made call) device d)
+devices_then odd tail (WriteTail ∷ left) d = devices_then odd tail left (change (made (Write 0 (anew_text tail.entries))) (Log odd) d)
+
+-- the bytes of the next generation's log once these calls are made, with this tail
+abbrev pub next_log : Tail → List StoreCall → StoreState → List ℕ
+next_log tail calls s = (log_at (not (side s)) (devices_then (not (side s)) tail calls s.devices)).now
+
+-- the calls that are left make of the next generation's log the tail alone: its gate, its group and the next gate
+abbrev pub LogLeft : Option Tail → List StoreCall → StoreState → Type 0
+LogLeft None calls s = (tail : Tail) → next_log tail calls s ≡ anew_text tail.entries
+LogLeft (Some tail) calls s = next_log tail calls s ≡ anew_text tail.entries
+
 -- A store that still makes these calls of a switch, from `kept` to the checkpoint `next`. `tail` is the tail that is written, if it is.
 pub record SwitchesBy (calls : List StoreCall) (kept : Kept) (next : Checkpoint) (tail : Option Tail) (s : StoreState) (a : Aim) : Type 0 where
   pub runs : some calls ≡ true
   pub tail_left : TailLeft tail calls
+  pub log_left : LogLeft tail calls s
   pub kept_is : a.kept ≡ kept
   pub stake_is : a.stake ≡ stake_before calls kept (aimed_at kept next tail)
   pub gated_is : a.gated ≡ aimed_at kept next tail
@@ -61,11 +82,13 @@ pub record SwitchesBy (calls : List StoreCall) (kept : Kept) (next : Checkpoint)
   pub odd_calm : is_torn s.odd ≡ false
 
 -- A store after a switch to the checkpoint `next` with this tail. It keeps the new generation with the tail's entries, and may restore no
--- other thing. Its log ends where the tail does: one gate, and one group. No group runs.
+-- other thing. Its log has the tail's bytes and no more: a gate, the tail's group, and the closed gate at which the log ends. No group runs.
 pub record HasSwitched (next : Checkpoint) (tail : Tail) (s : StoreState) (a : Aim) : Type 0 where
   pub idle : s.running ≡ []
   pub generation_is : s.generation ≡ next.generation
   pub end_is : s.end ≡ 1 + length (group_text tail.entries)
+  pub log_is : present_log s ≡ anew_text tail.entries
+  pub long_is : length (present_log s) ≡ 2 + length (group_text tail.entries)
   pub none_added : s.adding ≡ []
   pub kept_is : a.kept ≡ switched next tail.entries
   pub stake_is : a.stake ≡ switched next tail.entries

@@ -9,6 +9,7 @@ mod words;
 
 use crate::images::empty_disks;
 use crate::life::{Stage, play};
+use std::alloc::Global;
 use std::process::ExitCode;
 use std::{fs, io};
 
@@ -17,20 +18,6 @@ use std::{fs, io};
 struct Tally {
     lives: u64,
     differs: bool,
-}
-
-/// What a step left, and whether it told what the life says.
-#[derive(Drop)]
-struct Played {
-    stage: Stage,
-    agrees: io::Result<bool>,
-}
-
-impl Played {
-    fn into_parts(self) -> (Stage, io::Result<bool>) {
-        let Played { stage, agrees } = self;
-        (stage, agrees)
-    }
 }
 
 /// The names of the files in this folder that have lives, ascending.
@@ -46,38 +33,63 @@ fn names(rt: &HostRuntime) -> io::Result<Vec<String>> {
     Ok(names)
 }
 
-/// Whether a step told what the life says. Says where it told something else.
+/// Whether a step told what the life says. Says where it told something else, and what it told where
+/// the life asks.
 fn agrees(rt: &HostRuntime, name: &str, line: u64, told: &str, wanted: &str) -> io::Result<bool> {
     if told == wanted {
+        return Ok(true);
+    }
+    if wanted == "?" {
+        println!(rt; "{name}, line {line}: {told}")?;
         return Ok(true);
     }
     println!(rt; "{name}, line {line}: {told} in place of {wanted}")?;
     Ok(false)
 }
 
-/// Says where a line is no step.
-fn refused(rt: &HostRuntime, name: &str, line: u64, why: io::Error) -> io::Result<Option<Played>> {
+/// Says where a line is no step, and that it did not tell what the life says.
+fn refused(rt: &HostRuntime, name: &str, line: u64, why: io::Error) -> io::Result<bool> {
     if why.kind() != io::ErrorKind::InvalidData {
         return Err(why);
     }
     println!(rt; "{name}, line {line}: {why}")?;
-    Ok(None)
+    Ok(false)
 }
 
-/// Plays a line: a step, and after ` = ` what it tells.
+/// The names that a file gives to words, in order.
+fn named(alloc: Global, text: &str) -> io::Result<Vec<(&str, &str)>> {
+    let mut named = Vec::new(alloc);
+    for line in text.lines() {
+        if let Some(words) = line.strip_prefix("let ") {
+            named.push(words.split_once(' ').unwrap_or((words, "")))?;
+        }
+    }
+    Ok(named)
+}
+
+/// A line with the words of each name in its place. The last name goes first, so that its words may have
+/// names before it.
+fn spelled_out(alloc: Global, named: &[(&str, &str)], text: &str) -> io::Result<String> {
+    let mut line = String::from_str(alloc, text)?;
+    for (name, words) in named.iter().rev() {
+        line = line.replace(alloc, *name, words)?;
+    }
+    Ok(line)
+}
+
+/// Plays a line with names in it: a step, and after ` = ` what it tells. Answers whether it did.
 fn play_line(
     rt: &HostRuntime,
     name: &str,
     line: u64,
-    stage: Stage,
+    stage: &mut Stage,
+    named: &[(&str, &str)],
     text: &str,
-) -> io::Result<Option<Played>> {
-    let (step, wanted) = text.split_once(" = ").unwrap_or((text, ""));
+) -> io::Result<bool> {
+    let text = spelled_out(rt.alloc(), named, text)?;
+    let (step, wanted) = text.split_once(" = ").unwrap_or((text.as_str(), ""));
     match play(rt.alloc(), stage, step) {
-        Ok((stage, told)) => {
-            let agrees = agrees(rt, name, line, told.as_str(), wanted);
-            Ok(Some(Played { stage, agrees }))
-        }
+        Ok(told) => agrees(rt, name, line, told.as_str(), wanted),
         Err(why) => refused(rt, name, line, why),
     }
 }
@@ -87,33 +99,54 @@ fn fresh(rt: &HostRuntime) -> io::Result<Stage> {
     Ok(Stage::Down(empty_disks(rt.alloc())?))
 }
 
+/// Takes a line: none, the beginning of a life, or a step. Answers whether it went as the life says.
+fn take_line(
+    rt: &HostRuntime,
+    name: &str,
+    line: u64,
+    stage: &mut Stage,
+    lives: &mut u64,
+    named: &[(&str, &str)],
+    text: &str,
+) -> io::Result<bool> {
+    if text.is_empty() || text.starts_with('#') || text.starts_with("let ") {
+        return Ok(true);
+    }
+    if text.starts_with("life ") {
+        *stage = fresh(rt)?;
+        *lives = lives.saturating_add(1);
+        return Ok(true);
+    }
+    play_line(rt, name, line, stage, named, text)
+}
+
+/// Plays the lines of a file, up to the first that tells something else.
+fn play_lines(
+    rt: &HostRuntime,
+    name: &str,
+    named: &[(&str, &str)],
+    text: &str,
+    tally: &mut Tally,
+) -> io::Result<()> {
+    let mut stage = fresh(rt)?;
+    let mut lives = 0u64;
+    let mut differs = false;
+    for (line, text) in (1u64..).zip(text.lines()) {
+        if !take_line(rt, name, line, &mut stage, &mut lives, named, text)? {
+            differs = true;
+            lives = lives.saturating_sub(1);
+            break;
+        }
+    }
+    tally.count(lives, differs);
+    Ok(())
+}
+
 /// Plays the lives of a file, up to the first line that tells something else.
 fn play_file(rt: &HostRuntime, name: &str, tally: &mut Tally) -> io::Result<()> {
     let text = fs::read_to_string(rt, name)?;
-    let mut stage = fresh(rt)?;
-    let mut lives = 0u64;
-    for (line, text) in (1u64..).zip(text.lines()) {
-        if text.is_empty() || text.starts_with('#') {
-            continue;
-        }
-        if text.starts_with("life ") {
-            stage = fresh(rt)?;
-            lives = lives.saturating_add(1);
-            continue;
-        }
-        let Some(played) = play_line(rt, name, line, stage, text)? else {
-            tally.count(lives.saturating_sub(1), true);
-            return Ok(());
-        };
-        let (next, agrees) = played.into_parts();
-        stage = next;
-        if !agrees? {
-            tally.count(lives.saturating_sub(1), true);
-            return Ok(());
-        }
-    }
-    tally.count(lives, false);
-    Ok(())
+    let named = named(rt.alloc(), text.as_str())?;
+    play_lines(rt, name, named.as_slice(), text.as_str(), tally)
 }
 
 impl Tally {

@@ -2,12 +2,17 @@
 ghost use Rattle.std.specs.Prelude.{◌≡◌, ◌<◌, ◌^◌, length, IfOk};
 ghost use Rattle.store_plan.specs.Fit.{AreEntries};
 
+use book_tail::tail::cut_texts;
 use hex::FromHexError;
+use smart_base::fault::ReadError;
+use smart_base::number::Place;
 use smart_base::sequence::{Bytes, Sequence};
 use std::alloc::{AllocError, Global};
 use std::io;
 use store_form::ends::LogFault;
 use store_laws::job::Tail;
+use vote_book::codec::decode_entry;
+use vote_book::entry::LogEntry;
 
 /// A line that cannot be played.
 pub fn no_step(why: &str) -> io::Error {
@@ -42,13 +47,43 @@ pub fn entries_of(alloc: Global, words: &str) -> io::Result<Sequence<Bytes>>
     Ok(Sequence::from_vec(entries))
 }
 
-/// A tail: the number of its last entry that was made, and its entries. No word is a tail of none.
+/// The entry of a book that a word is.
+fn entry_of(alloc: Global, word: &str) -> io::Result<LogEntry> {
+    let bytes = bytes_of(alloc, word)?;
+    match decode_entry(alloc, bytes.as_slice()) {
+        Ok(entry) => Ok(entry),
+        Err(ReadError::NoMemory) => Err(AllocError.into()),
+        Err(ReadError::Unread { .. }) => Err(no_step("no entry")),
+    }
+}
+
+/// What is kept of a book beside a checkpoint: a place, and the book's entries.
+fn cut_of(alloc: Global, words: &str) -> io::Result<Sequence<Bytes>>
+    ensures { IfOk result (λ entries. AreEntries entries) }
+{
+    let (place, words) = words.split_once(' ').unwrap_or((words, ""));
+    let place = number_of(place)?;
+    if 1 << 63 <= place {
+        return Err(no_step("no place"));
+    }
+    let mut book = Vec::new(alloc);
+    for word in words.split_whitespace() {
+        book.push(entry_of(alloc, word)?)?;
+    }
+    Ok(cut_texts(alloc, book.as_slice(), Place::new(place))?)
+}
+
+/// A tail: the number of its last entry that was made, and its entries, or the book of which they are
+/// the cut. No word is a tail of none.
 pub fn tail_of(alloc: Global, words: &str) -> io::Result<Tail>
     ensures { IfOk result (λ tail. AreEntries tail.entries) }
 {
     let (made, entries) = words.split_once(' ').unwrap_or((words, ""));
     let made = if made.is_empty() { 0 } else { number_of(made)? };
-    let entries = entries_of(alloc, entries)?;
+    let entries = match entries.strip_prefix("cut ") {
+        Some(book) => cut_of(alloc, book)?,
+        None => entries_of(alloc, entries)?,
+    };
     Ok(Tail { made, entries })
 }
 

@@ -1,5 +1,6 @@
 //! Which entries end a group. A store sees bytes only, so this is told to it.
 ghost use Rattle.std.specs.Prelude.{◌≡◌, ℕ, Bool, List, false};
+ghost use Rattle.store_laws.specs.Stops.{is_installed};
 
 /// A test of entries.
 pub trait Stops {
@@ -8,6 +9,24 @@ pub trait Stops {
 
     fn stops(entry: &[u8]) -> bool
         ensures { result ≡ stops entry.now };
+}
+
+/// The first byte of an entry that installs a replica.
+const INSTALLED: u8 = 7;
+
+/// An entry that installs a replica ends a group: it waits for the switch to that replica's snapshot.
+pub struct InstallsStop {}
+
+impl Stops for InstallsStop {
+    ghost stops = { is_installed };
+
+    #[tactic(auto, unfolding(store_laws::specs::Stops::is_installed))]
+    fn stops(entry: &[u8]) -> bool {
+        match entry.first() {
+            None => false,
+            Some(kind) => *kind == INSTALLED,
+        }
+    }
 }
 
 /// No entry ends a group.

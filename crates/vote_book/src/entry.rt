@@ -12,8 +12,8 @@ use smart_statements::signed_list::SignedList;
 use smart_statements::statement::{Ballot, Slot};
 use std::alloc::{AllocError, Global};
 
-/// The opening of a book: its member, the number of places from one mark to the next, and the group's
-/// first view.
+/// The opening of a book: its member, the number of places in which each member takes one checkpoint,
+/// and the group's first view.
 pub struct Opening {
     pub member: MemberId,
     pub period: u32,
@@ -112,7 +112,6 @@ impl Drop for Decision {
 }
 
 /// An installation: the replica after a place was taken over from other members, who had marked it.
-/// INTERIM(transfer): nobody makes one.
 pub struct Installation {
     pub place: Place,
     pub digest: Digest32,

@@ -7,5 +7,5 @@ use Rattle.member_store.proofs.store.MemberStore.restart.Goals as goal
 
 pub returns-clause-restores : goal.returns-clause-restores
 returns-clause-restores c =
-    subst (λ (s : MemberState). IfOk c.opened-devices.result.1 (λ entries. s.runs ≡ false → entries ≡ (restores (bytes_held s.state)).entries))
+    subst (λ (s : MemberState). IfOk c.opened-devices.result.1 (λ kept. s.runs ≡ false → kept ≡ restores (bytes_held s.state)))
     (ap (λ d. state_in d) c.replace-devices.ensures.value ∙ c.self.view_is) c.opened-devices.ensures.restores
