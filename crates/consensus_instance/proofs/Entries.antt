@@ -20,6 +20,8 @@ use Rattle.vote_book.specs.declared.entry.Accept.{Accept as Accepting}
 use Rattle.vote_book.specs.declared.entry.Promise.{Promise}
 use Rattle.vote_book.specs.declared.entry.Start.{Start as Beginning}
 use Rattle.vote_book.specs.declared.entry.Decision.{Decision}
+use Rattle.vote_book.specs.declared.entry.Installation.{Installation}
+use Rattle.smart_statements.specs.declared.report.Mark.{Mark}
 use Rattle.vote_book.specs.declared.entry.LogEntry.{LogEntry}
 use Rattle.vote_book.specs.declared.entry.LogEntry.TheVariants.{Opened, Wrote, Accepted, Promised, Synced, Decided, Installed, Marked}
 use Rattle.node_rules.specs.Nodes as nodes
@@ -31,7 +33,7 @@ use Rattle.node_rules.specs.Rules.{writing, accepting}
 use Rattle.consensus_instance.specs.declared.rule.Rule.{Rule}
 use Rattle.consensus_instance.specs.declared.rule.Rule.TheVariants.{Write, Accept}
 use Rattle.consensus_instance.specs.declared.start.Start.{Start}
-use Rattle.consensus_instance.specs.Instances.{Instance, first_of, decided_place, is_free, has_begun, bound_at, is_bound_to, is_unbound, is_open, open_slot, votable, written, due_by, moved_on, promising, syncing, resuming}
+use Rattle.consensus_instance.specs.Instances.{Instance, first_of, decided_place, is_free, has_begun, bound_at, is_bound_to, is_unbound, is_open, open_slot, votable, written, due_by, moved_on, taken_to, promising, syncing, resuming}
 use Rattle.consensus_instance.specs.Nodes.{slot_behind, stated_start, IsInstance, HasInstance, due_at}
 
 -- BOOLEANS
@@ -144,6 +146,24 @@ decided_instance id view place waiting arrivals entries i d batch is =
       accepted_same = is.accepted_same ∙ sym (any_passed (accepts_in slot) entries e refl);
     }
 
+-- a mark changes nothing
+pub marked_instance : (id : ℕ) (view : View) (place : ℕ) (waiting : Option Batch) (arrivals : List Message) (entries : List LogEntry) (i : Instance) (m : Mark)
+    → IsInstance id view place waiting arrivals entries i → IsInstance id view place waiting arrivals (entries ++ Marked m ∷ []) i
+marked_instance id view place waiting arrivals entries i m is =
+    let slot = slot_behind view.number place i.regency in
+    let e = Marked m in
+    record {
+      id_same = is.id_same;
+      view_same = is.view_same;
+      place_same = is.place_same;
+      decided_same = is.decided_same;
+      regency_same = is.regency_same ∙ sym (greatest_passed view.number entries e refl);
+      start_same = is.start_same ∙ sym (ap (λ (o : Option Beginning). option_map stated_start o) (at_passed view i.regency entries e refl));
+      arrivals_same = is.arrivals_same;
+      wrote_same = is.wrote_same ∙ sym (any_passed (writes_in slot) entries e refl);
+      accepted_same = is.accepted_same ∙ sym (any_passed (accepts_in slot) entries e refl);
+    }
+
 pub delivered_instance : (id : ℕ) (view : View) (place : ℕ) (waiting : Option Batch) (arrivals : List Message) (entries : List LogEntry) (i : Instance) (votes : OwnVotes)
     → votes ≡ own_votes (slot_behind view.number (place + 1) i.regency) entries
     → IsInstance id view place waiting arrivals entries i → IsInstance id view (place + 1) None arrivals entries (moved_on votes i)
@@ -158,6 +178,25 @@ delivered_instance id view place waiting arrivals entries i votes voted is = rec
   wrote_same = ap (λ (v : OwnVotes). v.wrote) voted;
   accepted_same = ap (λ (v : OwnVotes). v.accepted) voted;
 }
+
+-- a replica of a later place is taken over, with what the book says of its view
+pub installed_instance : (id : ℕ) (view now : View) (place next : ℕ) (waiting : Option Batch) (arrivals : List Message) (entries : List LogEntry) (i : Instance) (x : Installation) (regency : ℕ) (start : Option Start) (votes : OwnVotes)
+    → regency ≡ greatest_regency now.number entries → start ≡ option_map stated_start (start_at now regency entries) → votes ≡ own_votes (slot_behind now.number next regency) entries
+    → IsInstance id view place waiting arrivals entries i → IsInstance id now next None arrivals (entries ++ Installed x ∷ []) (taken_to now next regency start votes i)
+installed_instance id view now place next waiting arrivals entries i x regency start votes at begun voted is =
+    let slot = slot_behind now.number next regency in
+    let e = Installed x in
+    record {
+      id_same = is.id_same;
+      view_same = refl;
+      place_same = refl;
+      decided_same = refl;
+      regency_same = at ∙ sym (greatest_passed now.number entries e refl);
+      start_same = begun ∙ sym (ap (λ (o : Option Beginning). option_map stated_start o) (at_passed now regency entries e refl));
+      arrivals_same = is.arrivals_same;
+      wrote_same = ap (λ (v : OwnVotes). v.wrote) voted ∙ sym (any_passed (writes_in slot) entries e refl);
+      accepted_same = ap (λ (v : OwnVotes). v.accepted) voted ∙ sym (any_passed (accepts_in slot) entries e refl);
+    }
 
 -- a promise of the next regency or of any later one
 pub promised_instance : (id : ℕ) (view : View) (place : ℕ) (waiting : Option Batch) (arrivals : List Message) (entries : List LogEntry) (i : Instance) (p : Promise) (start : Option Start) (votes : OwnVotes)

@@ -167,6 +167,19 @@ trimmed view i = record i { arrivals = filter (is_needed view (decided_place i) 
 abbrev pub moved_on : OwnVotes → Instance → Instance
 moved_on votes i = record i { place = i.place + 1; decided = false; wrote = votes.wrote; accepted = votes.accepted }
 
+-- The instance of the next place of a replica that was taken over, in its view, with the regency in force there, its beginning, if it has one,
+-- and the member's votes. What was kept stays.
+abbrev pub taken_to : View → ℕ → ℕ → Option Start → OwnVotes → Instance → Instance
+taken_to view place regency start votes i = record i {
+  view = view;
+  place = place;
+  decided = false;
+  regency = regency;
+  start = start;
+  wrote = votes.wrote;
+  accepted = votes.accepted;
+}
+
 -- the instance in a later regency, with its beginning, if it has one, and the member's votes there
 abbrev pub promising : ℕ → Option Start → OwnVotes → Instance → Instance
 promising regency start votes i = record i { regency = regency; start = start; wrote = votes.wrote; accepted = votes.accepted }

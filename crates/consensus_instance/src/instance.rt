@@ -8,7 +8,7 @@ ghost use Rattle.node_rules.specs.Votes.{has_quorum, name_of};
 ghost use Rattle.node_rules.specs.Arrivals.{is_same_proposal, is_same_vote};
 ghost use Rattle.node_rules.specs.Nodes.{is_within};
 ghost use Rattle.node_rules.specs.Votes.{certificate_votes, proposed_for};
-ghost use Rattle.consensus_instance.specs.Instances.{Instance, first_of, regency_of, decided_place, is_free, has_begun, is_bound_to, is_unbound, is_open, open_slot, votable, written, due_by, accepted_named, trimmed, moved_on, promising, syncing, resuming};
+ghost use Rattle.consensus_instance.specs.Instances.{Instance, first_of, regency_of, decided_place, is_free, has_begun, is_bound_to, is_unbound, is_open, open_slot, votable, written, due_by, accepted_named, trimmed, moved_on, taken_to, promising, syncing, resuming};
 ghost use Rattle.consensus_instance.specs.Instances.{is_reached, keeps_vote, keeps_proposal, keeping_vote, keeping_proposal};
 
 use crate::find::{
@@ -380,6 +380,29 @@ impl Instance {
     {
         self.place = self.place.next();
         self.decided = false;
+        self.wrote = votes.wrote;
+        self.accepted = votes.accepted;
+    }
+
+    /// Moves to the place after a replica that was taken over, in the replica's view. The regency in
+    /// force there has this beginning, if it has begun; the member has these votes in its slot. What
+    /// was kept stays.
+    pub fn taken_to(
+        &mut self,
+        view: View,
+        place: Place,
+        regency: Regency,
+        begins: Option<Start>,
+        votes: OwnVotes,
+    )
+        requires { regency ≡ 0 → IsSome begins }
+        ensures { self.new ≡ taken_to view place regency begins votes self.old }
+    {
+        self.view = view;
+        self.place = place;
+        self.decided = false;
+        self.regency = regency;
+        self.start = begins;
         self.wrote = votes.wrote;
         self.accepted = votes.accepted;
     }

@@ -4,9 +4,9 @@ ghost use Rattle.smart_messages.specs.Messages.{Fits, decoded};
 ghost use Rattle.node_rules.specs.Arrivals.{why_dropped};
 ghost use Rattle.node_rules.specs.Steps.{judged, reads, takes_in};
 
-use node_judging::asks::asked_in;
+use node_judging::asks::called_by;
 use node_judging::taking::take;
-use node_rules::node::{Cause, Why};
+use node_rules::node::{Called, Cause, Why};
 use node_state::state::NodeState;
 use smart_base::fault::ReadError;
 use smart_messages::codec::decode;
@@ -29,6 +29,7 @@ pub fn take_in<S: Service>(node: &mut NodeState<S>, event: &NodeEvent) -> Result
     ensures cause { IfOk result (λ taken. taken.cause ≡ (takes_in node.old event.now).cause) }
     ensures dropped { IfOk result (λ taken. taken.dropped ≡ (takes_in node.old event.now).dropped) }
     ensures err { OnErr result (node.new.entries ≡ node.old.entries) }
+    ensures snapshots { OnErr result (node.new.taken ≡ node.old.taken) }
 {
     match event {
         NodeEvent::Arrive(bytes) => read(node, bytes.as_slice()),
@@ -56,12 +57,13 @@ fn read<S: Service>(node: &mut NodeState<S>, bytes: &[u8]) -> Result<Taken, Allo
     ensures cause { IfOk result (λ taken. taken.cause ≡ (reads node.old (decoded bytes.now)).cause) }
     ensures dropped { IfOk result (λ taken. taken.dropped ≡ (reads node.old (decoded bytes.now)).dropped) }
     ensures err { OnErr result (node.new.entries ≡ node.old.entries) }
+    ensures snapshots { OnErr result (node.new.taken ≡ node.old.taken) }
 {
     match decode(node.alloc, bytes) {
         Ok(message) => judge(node, message),
         Err(ReadError::NoMemory) => Err(AllocError),
         Err(ReadError::Unread { .. }) => Ok(Taken {
-            cause: Cause::Came(None),
+            cause: Cause::Came(Called::Nobody),
             dropped: Some(Why::Unread),
         }),
     }
@@ -74,15 +76,16 @@ fn judge<S: Service>(node: &mut NodeState<S>, message: Message) -> Result<Taken,
     ensures cause { IfOk result (λ taken. taken.cause ≡ (judged node.old message (why_dropped node.old message)).cause) }
     ensures dropped { IfOk result (λ taken. taken.dropped ≡ (judged node.old message (why_dropped node.old message)).dropped) }
     ensures err { OnErr result (node.new.entries ≡ node.old.entries) }
+    ensures snapshots { OnErr result (node.new.taken ≡ node.old.taken) }
 {
-    let asked = asked_in(&message);
+    let called = called_by(&message);
     match take(node, message)? {
         None => Ok(Taken {
-            cause: Cause::Came(asked),
+            cause: Cause::Came(called),
             dropped: None,
         }),
         Some(why) => Ok(Taken {
-            cause: Cause::Came(None),
+            cause: Cause::Came(Called::Nobody),
             dropped: Some(why),
         }),
     }

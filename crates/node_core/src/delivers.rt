@@ -133,6 +133,7 @@ pub fn answer_line<S: Service>(
     ensures node { OnOk result (node.new ≡ answer_line node.old line) }
     ensures fired { OnOk result (fired.new ≡ fired.old ++ fired_if fires.Answered line) }
     ensures err { OnErr result (node.new.entries ≡ node.old.entries) }
+    ensures snapshots { OnErr result (node.new.taken ≡ node.old.taken) }
 {
     match line {
         None => Ok(()),

@@ -1,18 +1,23 @@
 //! The node of a member, and the messages that leave it.
-ghost use Rattle.std.specs.Prelude.{◌≡◌, [], ℕ, false, length, IfOk, OnOk, OnErr, IsErrOf, Some, None, is_some};
-ghost use Rattle.std.specs.Option.{option_copied};
+ghost use Rattle.std.specs.Prelude.{◌≡◌, [], false, length, IfOk, OnOk, OnErr, is_some, option_map};
+ghost use Rattle.vote_book.specs.Books.{number_or};
+ghost use Rattle.std.specs.Option.{option_copied, option_to_list};
 ghost use Rattle.std.specs.Result.{is_err};
-ghost use Rattle.node_restart.specs.declared.fault.ReopenFault.TheVariants.{Damaged};
+ghost use Rattle.book_tail.specs.Tails.{AreTexts};
 ghost use Rattle.node_rules.specs.Nodes.{view_of, regency_of};
 ghost use Rattle.node_rules.specs.Kept.{core_step};
-ghost use Rattle.node_rules.specs.Reopening.{damaged, entries_in, reopened};
+ghost use Rattle.node_rules.specs.Marks.{wanted};
 ghost use Rattle.node_rules.specs.Steps.{first_leaving, after_first, leaving, released, opened, outset};
+ghost use Rattle.node_rules.specs.Tails.{tail_of};
+ghost use Rattle.node_rules.specs.Transfers.{completed_by};
 ghost use Rattle.node_state.specs.Broken.{IsPartly};
 
-use crate::reopen::{begin, reopen};
+use crate::completing::completed_by;
+use crate::marks::{place_wanted, wanted};
+use crate::reopen::begin;
 use crate::step::step;
-use node_restart::fault::ReopenFault;
-use node_rules::node::{Fired, Held, Why};
+use crate::tail::tail;
+use node_rules::node::{BookTail, Fired, Held, OwnSnapshot, Why};
 use node_state::state::NodeState;
 use outbox::outbox::Outbox;
 use smart_base::name::MemberId;
@@ -51,7 +56,7 @@ pub struct Outcome {
 
 impl<S: Service> NodeCore<S> {
     /// A new node, whose book has the opening alone. `view` is the group's first view, and `period`
-    /// the number of places from one mark to the next. Error: want of memory.
+    /// the number of places in which each member takes one checkpoint. Error: want of memory.
     pub fn begin(
         alloc: Global,
         id: MemberId,
@@ -63,39 +68,17 @@ impl<S: Service> NodeCore<S> {
         ensures broken { IfOk result (λ core. core.broken ≡ false) }
     {
         let node = begin(alloc, id, view, period, ring)?;
-        Ok(NodeCore {
-            node,
-            broken: false,
-        })
+        Ok(NodeCore::whole(node))
     }
 
-    /// The node after a restart from the entries that its disks restored (recovery: Dura-SMaRt,
-    /// USENIX ATC 2013). `view` is the group's first view, and `period` the number of places from one
-    /// mark to the next.
-    ///
-    /// All these entries are firm, and nothing else of the earlier life is left. The node notes that
-    /// it may lag. With no entry it opens a new book. The book need not be tidy. The cost is linear
-    /// in what was restored. Errors: the number, from 1, of the first damaged entry; want of memory.
-    pub fn reopen(
-        alloc: Global,
-        id: MemberId,
-        view: View,
-        period: u32,
-        ring: Ring,
-        restored: &[Bytes],
-    ) -> Result<Self, ReopenFault>
-        ensures whole { OnOk result (damaged ring 0 view restored.now ≡ None) }
-        ensures node { IfOk result (λ core. core.node ≡ reopened S.meaning (outset S.meaning ring id view period) (entries_in restored.now)) }
-        ensures broken { IfOk result (λ core. core.broken ≡ false) }
-        // The number of the entry, from 1, that is the first to be damaged.
-        ensures cause { (entry : ℕ) → IsErrOf result (Damaged entry) → damaged ring 0 view restored.now ≡ Some entry }
+    /// The node of a state that no step has stopped.
+    pub(crate) fn whole(node: NodeState<S>) -> Self
+        ensures node { result.node ≡ node }
+        ensures broken { result.broken ≡ false }
     {
-        match reopen(alloc, id, view, period, ring, restored) {
-            Ok(node) => Ok(NodeCore {
-                node,
-                broken: false,
-            }),
-            Err(fault) => Err(fault),
+        NodeCore {
+            node,
+            broken: false,
         }
     }
 
@@ -176,11 +159,53 @@ impl<S: Service> NodeCore<S> {
         self.node.book.pushed()
     }
 
+    /// A copy of the snapshot to which the node wants its store to switch: the last that it took in this
+    /// life. `None` if and only if it took none. Error: want of memory.
+    pub fn wanted(&self) -> Result<Option<OwnSnapshot>, AllocError>
+        ensures { IfOk result (λ own. own ≡ wanted self.now.node) }
+    {
+        wanted(&self.node)
+    }
+
+    /// The place of that snapshot; 0 if it took none.
+    pub fn place_wanted(&self) -> Place
+        ensures { result ≡ number_or (option_map (λ own. own.place) (wanted self.now.node)) 0 }
+    {
+        place_wanted(&self.node)
+    }
+
+    /// The number of snapshots that the node took in this life.
+    pub fn taken(&self) -> u64
+        ensures { result ≡ length self.now.node.taken }
+    {
+        self.node.taken.len() as u64
+    }
+
+    /// The tail of the log beside a checkpoint of a place: the bytes of what the store keeps of the book
+    /// there. It has the number of its last entry among those that the node made in this life. Error:
+    /// want of memory, also for an entry that no log has room for.
+    pub fn tail(&self, place: Place) -> Result<BookTail, AllocError>
+        ensures tail { IfOk result (λ t. t ≡ tail_of self.now.node place) }
+        ensures fit { IfOk result (λ t. AreTexts t.entries) }
+    {
+        tail(&self.node, place)
+    }
+
+    /// The text that an event completes: what the parts of the plan are joined to, if the event brings
+    /// the last one. The node stays. Error: want of memory.
+    pub fn completed(&mut self, event: &NodeEvent) -> Result<Option<Bytes>, AllocError>
+        ensures text { IfOk result (λ text. option_to_list text ≡ completed_by self.old.node event.now) }
+        ensures same { self.new ≡ self.old }
+    {
+        completed_by(&mut self.node, event)
+    }
+
     /// Takes one event, and then makes one pass of the rules. Of what was kept before, only what is
     /// still needed remains. Error: want of memory.
     ///
     /// After want of memory the node is broken. It holds no message, and none leaves it any more. The
-    /// number of firm entries is the one before the event.
+    /// number of firm entries is the one before the event, and so are its snapshots: `wanted` answers
+    /// as before.
     pub fn step(&mut self, event: &NodeEvent) -> Result<Outcome, AllocError>
         requires { self.old.broken ≡ false }
         ensures node { OnOk result (self.new.node ≡ (core_step S.meaning self.old.node event.now).node) }
@@ -190,6 +215,7 @@ impl<S: Service> NodeCore<S> {
         ensures err { OnErr result (IsPartly self.old.node.entries self.new.node.entries (core_step S.meaning self.old.node event.now).node.entries) }
         ensures held { OnErr result (self.new.node.held ≡ []) }
         ensures counts { OnErr result ((self.new.node.firm ≡ self.old.node.firm) × (self.new.node.restored ≡ self.old.node.restored)) }
+        ensures snapshots { OnErr result (self.new.node.taken ≡ self.old.node.taken) }
     {
         let firm = self.node.firm;
         let restored = self.node.restored;

@@ -1,13 +1,14 @@
 //! One pass of the rules.
-ghost use Rattle.std.specs.Prelude.{◌≡◌, ◌++◌, OnOk, OnErr};
-ghost use Rattle.node_rules.specs.Rules.{fired_if, answering, answers_again};
-ghost use Rattle.node_rules.specs.Steps.{deliver_row, time_row, answer_row, end_rows, rules, pass};
+ghost use Rattle.std.specs.Prelude.{◌≡◌, ◌++◌, OnOk, OnErr, is_some};
+ghost use Rattle.node_rules.specs.Steps.{deliver_row, time_row, answer_row, pass};
+ghost use Rattle.node_core.specs.Apart.{time_rows, front_rows};
 ghost use Rattle.node_state.specs.Broken.{IsPartly};
-ghost use Rattle.node_rules.specs.declared.node.Fired.TheVariants as fires;
 
-use crate::delivers::{answer_line, delivers};
-use node_judging::asks::answering;
-use node_rules::node::{Asked, Cause, Fired};
+use crate::answers::answers_call;
+use crate::delivers::delivers;
+use crate::install::installs;
+use crate::marks::marks_place;
+use node_rules::node::{Cause, Fired};
 use node_state::state::NodeState;
 use node_turns::times::times;
 use node_turns::turns::turns;
@@ -17,16 +18,17 @@ use smart_base::sequence::Sequence;
 use smart_service::service::Service;
 use std::alloc::AllocError;
 
-/// One pass of the rules: each once, in their order, with the events that they report. Error: want of
-/// memory.
+/// One pass of the rules before the answers: each once, in their order, with the events that they
+/// report. Error: want of memory.
 pub fn pass<S: Service>(
     node: &mut NodeState<S>,
     cause: &Cause,
     fired: &mut Sequence<Fired>,
 ) -> Result<(), AllocError>
-    ensures pass { OnOk result (pass (rules S.meaning) node.old cause.now fired.old ≡ (node.new, fired.new)) }
-    ensures err { OnErr result (IsPartly node.old.entries node.new.entries (pass (rules S.meaning) node.old cause.now fired.old).0.entries) }
+    ensures pass { OnOk result (pass (front_rows S.meaning) node.old cause.now fired.old ≡ (node.new, fired.new)) }
+    ensures err { OnErr result (IsPartly node.old.entries node.new.entries (pass (front_rows S.meaning) node.old cause.now fired.old).0.entries) }
 {
+    installs(node, fired)?;
     deliver_due(node, cause, fired)?;
     turns(node, cause, fired)?;
     votes(node, cause, fired)?;
@@ -34,37 +36,44 @@ pub fn pass<S: Service>(
     Ok(())
 }
 
-/// Delivers, where the service is to execute what waits. Error: want of memory.
+/// Delivers and marks, where the service is to execute what waits. Error: want of memory.
 fn deliver_due<S: Service>(
     node: &mut NodeState<S>,
     cause: &Cause,
     fired: &mut Sequence<Fired>,
 ) -> Result<(), AllocError>
     ensures row { OnOk result (deliver_row S.meaning node.old cause.now fired.old ≡ (node.new, fired.new)) }
-    ensures err { OnErr result (node.new.entries ≡ node.old.entries) }
+    ensures err { OnErr result (IsPartly node.old.entries node.new.entries (deliver_row S.meaning node.old cause.now fired.old).0.entries) }
 {
     match cause {
         Cause::Delivering => {
+            let delivered = batch_waits(node);
             delivers(node, fired)?;
+            marks_place(node, delivered, fired)?;
             Ok(())
         }
         Cause::Came(_) | Cause::Ticked | Cause::Firmed => Ok(()),
     }
 }
 
-/// The rules behind the votes: decides, acts on time and answers again, each once. Error: want of
-/// memory.
+/// Whether a batch waits for its delivery.
+fn batch_waits<S: Service>(node: &NodeState<S>) -> bool
+    ensures { result ≡ is_some node.now.waiting }
+{
+    node.waiting.is_some()
+}
+
+/// The rules behind the votes: decides and acts on time, each once. Error: want of memory.
 fn ends<S: Service>(
     node: &mut NodeState<S>,
     cause: &Cause,
     fired: &mut Sequence<Fired>,
 ) -> Result<(), AllocError>
-    ensures pass { OnOk result (pass end_rows node.old cause.now fired.old ≡ (node.new, fired.new)) }
-    ensures err { OnErr result (IsPartly node.old.entries node.new.entries (pass end_rows node.old cause.now fired.old).0.entries) }
+    ensures pass { OnOk result (pass time_rows node.old cause.now fired.old ≡ (node.new, fired.new)) }
+    ensures err { OnErr result (IsPartly node.old.entries node.new.entries (pass time_rows node.old cause.now fired.old).0.entries) }
 {
     decides(node, fired)?;
     act_on_time(node, cause, fired)?;
-    answer_due(node, cause, fired)?;
     Ok(())
 }
 
@@ -86,37 +95,21 @@ fn act_on_time<S: Service>(
     }
 }
 
-/// Answers again, where a request came. Error: want of memory.
-fn answer_due<S: Service>(
+/// Answers what came. Error: want of memory.
+pub fn answer_due<S: Service>(
     node: &mut NodeState<S>,
     cause: &Cause,
     fired: &mut Sequence<Fired>,
 ) -> Result<(), AllocError>
     ensures row { OnOk result (answer_row node.old cause.now fired.old ≡ (node.new, fired.new)) }
     ensures err { OnErr result (node.new.entries ≡ node.old.entries) }
+    ensures snapshots { OnErr result (node.new.taken ≡ node.old.taken) }
 {
     match cause {
-        Cause::Came(asked) => {
-            answers(node, asked, fired)?;
+        Cause::Came(called) => {
+            answers_call(node, *called, fired)?;
             Ok(())
         }
         Cause::Ticked | Cause::Delivering | Cause::Firmed => Ok(()),
     }
-}
-
-/// The rule that answers a repeated request: its client is sent the kept reply again. Error: want of
-/// memory.
-#[tactic(auto, unfolding(node_rules::specs::Rules::answers_again))]
-fn answers<S: Service>(
-    node: &mut NodeState<S>,
-    asked: &Option<Asked>,
-    fired: &mut Sequence<Fired>,
-) -> Result<(), AllocError>
-    ensures node { OnOk result (node.new ≡ answers_again node.old asked.now) }
-    ensures fired { OnOk result (fired.new ≡ fired.old ++ fired_if fires.Answered (answering node.old asked.now)) }
-    ensures err { OnErr result (node.new.entries ≡ node.old.entries) }
-{
-    let line = answering(node, *asked)?;
-    answer_line(node, line, fired)?;
-    Ok(())
 }

@@ -1,16 +1,14 @@
 //! New nodes, and nodes that restart.
-ghost use Rattle.std.specs.Prelude.{◌≡◌, ℕ, [], false, None, Some, IfOk, OnOk, IsErrOf};
+ghost use Rattle.std.specs.Prelude.{◌≡◌, ◌≤◌, [], false, None, IfOk, OnOk};
 ghost use Rattle.vote_book.specs.Books.{last_made};
-ghost use Rattle.node_rules.specs.Reopening.{damaged, entries_in, reopened};
-ghost use Rattle.node_restart.specs.declared.fault.ReopenFault.TheVariants.{Damaged};
 ghost use Rattle.node_state.specs.Following.{Follows};
-ghost use Rattle.node_core.specs.Resuming.{going_on};
+ghost use Rattle.node_core.specs.Resuming.{opening_of, begun_with, going_on, gone_on};
 ghost use Rattle.node_rules.specs.Steps.{opened, outset};
 
 use consensus_instance::instance::Instance;
 use delivery::replica::KeptReplica;
-use node_restart::fault::ReopenFault;
-use node_restart::restart::{Restart, restarted};
+use node_restart::restart::Restart;
+use node_rules::node::OwnSnapshot;
 use node_state::find::{first_start, greatest_regency, start_at};
 use node_state::seal::{MemberKeys, taught};
 use node_state::state::NodeState;
@@ -20,7 +18,7 @@ use request_pool::pool::RequestPool;
 use smart_base::duplicate::Duplicate;
 use smart_base::name::MemberId;
 use smart_base::number::Place;
-use smart_base::sequence::Bytes;
+use smart_base::sequence::Sequence;
 use smart_base::view::View;
 use smart_keys::ring::Ring;
 use smart_service::service::Service;
@@ -54,13 +52,19 @@ pub fn begin<S: Service>(
     Ok(NodeState {
         alloc,
         keys: MemberKeys::new(id, ring),
+        period,
         replica,
         waiting: None,
         pool: RequestPool::new(alloc),
         instance,
         synchronizer,
+        decisions: Sequence::new(alloc),
         marks: MarkTable::new(alloc),
+        offers: Sequence::new(alloc),
+        fetch: None,
         book,
+        checkpoint: None,
+        taken: Sequence::new(alloc),
         restored: 0,
         firm: 0,
         held: Outbox::new(alloc),
@@ -86,7 +90,7 @@ fn summarize(
     place: Place,
     book: &Book,
 ) -> Result<Summaries, AllocError>
-    requires { last_made book.now.entries ≡ place }
+    requires { last_made book.now.entries ≤ place }
     ensures follows { IfOk result (λ found. Follows id view.now place None book.now.entries found.instance found.synchronizer) }
     ensures arrivals { IfOk result (λ found. found.instance.arrivals ≡ []) }
     ensures stops { IfOk result (λ found. found.synchronizer.stops ≡ []) }
@@ -108,60 +112,46 @@ fn summarize(
     })
 }
 
-/// The node after a restart from entries. Errors: the number of the first damaged entry; want of
-/// memory.
-pub fn reopen<S: Service>(
+/// Opens a book that has no entry. Error: want of memory.
+#[tactic(auto, using(crate::proofs::Resuming::begun_some, crate::proofs::Resuming::begun_none, crate::proofs::Resuming::begun_last))]
+fn open_if_empty(
     alloc: Global,
     id: MemberId,
-    view: View,
     period: u32,
-    ring: Ring,
-    restored: &[Bytes],
-) -> Result<NodeState<S>, ReopenFault>
-    ensures whole { OnOk result (damaged ring 0 view restored.now ≡ None) }
-    ensures node { IfOk result (λ node. node ≡ reopened S.meaning (outset S.meaning ring id view period) (entries_in restored.now)) }
-    ensures cause { (entry : ℕ) → IsErrOf result (Damaged entry) → damaged ring 0 view restored.now ≡ Some entry }
+    view: &View,
+    book: &mut Book,
+) -> Result<(), AllocError>
+    ensures entries { OnOk result (book.new.entries ≡ begun_with (opening_of id period view.now) book.old.entries) }
+    ensures opening { OnOk result (book.new.opening ≡ book.old.opening) }
+    ensures last { OnOk result (last_made book.new.entries ≡ last_made book.old.entries) }
 {
-    let ring = taught(ring, view.members())?;
-    if restored.is_empty() {
-        let node = reopen_empty(alloc, id, view, period, ring)?;
-        return Ok(node);
+    if !book.pushed().is_empty() {
+        return Ok(());
     }
-    match restarted(alloc, &ring, view, restored) {
-        Ok(back) => {
-            let node = go_on(alloc, id, ring, back)?;
-            Ok(node)
-        }
-        Err(fault) => Err(fault),
-    }
+    let opening = Opening {
+        member: id,
+        period,
+        view: view.duplicate(alloc)?,
+    };
+    book.push(LogEntry::Opened(opening))?;
+    Ok(())
 }
 
-/// The node after a restart of which nothing was restored: it opens a new book.
-#[tactic(auto, unfolding(node_rules::specs::Reopening::reopened))]
-fn reopen_empty<S: Service>(
-    alloc: Global,
-    id: MemberId,
-    view: View,
-    period: u32,
-    ring: Ring,
-) -> Result<NodeState<S>, AllocError>
-    ensures { IfOk result (λ node. node ≡ reopened S.meaning (outset S.meaning ring id view period) []) }
-{
-    let mut node = begin(alloc, id, view, period, ring)?;
-    node.behind = true;
-    Ok(node)
-}
-
-/// The node after a restart from what its entries gave back. Error: want of memory.
+/// The node that goes on over a replica and a book, of which so many entries were restored. Error: want
+/// of memory.
 fn go_on<S: Service>(
     alloc: Global,
     id: MemberId,
+    period: u32,
     ring: Ring,
-    back: Restart<S>,
+    replica: KeptReplica<S>,
+    book: Book,
+    restored: u64,
+    checkpoint: Option<OwnSnapshot>,
 ) -> Result<NodeState<S>, AllocError>
-    ensures { IfOk result (λ node. node ≡ going_on ring id back) }
+    requires { last_made book.entries ≤ replica.replica.place }
+    ensures { IfOk result (λ node. node ≡ going_on ring id period (record { past = book.opening; replica = replica.replica; entries = book.entries }) restored checkpoint) }
 {
-    let (replica, book) = back.finish();
     let Summaries {
         instance,
         synchronizer,
@@ -172,22 +162,53 @@ fn go_on<S: Service>(
         replica.replica().place,
         &book,
     )?;
-    let firm = book.pushed().len() as u64;
     Ok(NodeState {
         alloc,
         keys: MemberKeys::new(id, ring),
+        period,
         replica,
         waiting: None,
         pool: RequestPool::new(alloc),
         instance,
         synchronizer,
+        decisions: Sequence::new(alloc),
         marks: MarkTable::new(alloc),
+        offers: Sequence::new(alloc),
+        fetch: None,
         book,
-        restored: firm,
-        firm,
+        checkpoint,
+        taken: Sequence::new(alloc),
+        restored,
+        firm: restored,
         held: Outbox::new(alloc),
         proposed: Vec::new(alloc),
         impatient: false,
         behind: true,
     })
+}
+
+/// The node after a restart from what was given back. If no entry was, it opens a new book. Error: want
+/// of memory.
+#[tactic(auto, using(crate::proofs::Resuming::last_within))]
+pub fn resume<S: Service>(
+    alloc: Global,
+    id: MemberId,
+    period: u32,
+    ring: Ring,
+    back: Restart<S>,
+    checkpoint: Option<OwnSnapshot>,
+) -> Result<NodeState<S>, AllocError>
+    ensures { IfOk result (λ node. node ≡ gone_on ring id period back checkpoint) }
+{
+    let (replica, mut book) = back.finish();
+    let restored = book.pushed().len() as u64;
+    open_if_empty(
+        alloc,
+        id,
+        period,
+        replica.replica().views.present(),
+        &mut book,
+    )?;
+    let node = go_on(alloc, id, period, ring, replica, book, restored, checkpoint)?;
+    Ok(node)
 }

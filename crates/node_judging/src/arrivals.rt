@@ -25,6 +25,7 @@ pub fn take_proposal<S: Service>(
     ensures why { IfOk result (λ why. why ≡ why_propose node.old proposed) }
     ensures node { IfOk result (λ why. node.new ≡ kept_unless why (noted node.old (plain.Propose proposed)) (plain.Propose proposed)) }
     ensures err { OnErr result (node.new.entries ≡ node.old.entries) }
+    ensures snapshots { OnErr result (node.new.taken ≡ node.old.taken) }
 {
     let dropped = why_propose(node, &proposed)?;
     note(node, &proposed.head, proposed.head.statement().slot);
@@ -40,6 +41,7 @@ fn keep_proposal<S: Service>(node: &mut NodeState<S>, proposed: Proposed) -> Res
     requires { why_propose node.old proposed ≡ None }
     ensures node { OnOk result (node.new ≡ kept node.old (plain.Propose proposed)) }
     ensures err { OnErr result (node.new.entries ≡ node.old.entries) }
+    ensures snapshots { OnErr result (node.new.taken ≡ node.old.taken) }
 {
     let Proposed { head, batch } = proposed;
     node.instance.on_propose(head, batch)?;
@@ -55,6 +57,7 @@ pub fn take_vote<S: Service>(
     ensures why { IfOk result (λ why. why ≡ why_vote node.old ballot) }
     ensures node { IfOk result (λ why. node.new ≡ kept_unless why (noted node.old (plain.Vote ballot)) (plain.Vote ballot)) }
     ensures err { OnErr result (node.new.entries ≡ node.old.entries) }
+    ensures snapshots { OnErr result (node.new.taken ≡ node.old.taken) }
 {
     let dropped = why_vote(node, &ballot);
     note(node, &ballot, ballot.statement().slot);
@@ -70,6 +73,7 @@ fn keep_vote<S: Service>(node: &mut NodeState<S>, ballot: Signed<Ballot>) -> Res
     requires { why_vote node.old ballot ≡ None }
     ensures node { OnOk result (node.new ≡ kept node.old (plain.Vote ballot)) }
     ensures err { OnErr result (node.new.entries ≡ node.old.entries) }
+    ensures snapshots { OnErr result (node.new.taken ≡ node.old.taken) }
 {
     node.instance.on_vote(ballot)?;
     Ok(())

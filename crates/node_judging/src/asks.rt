@@ -2,20 +2,19 @@
 ghost use Rattle.std.specs.Prelude.{◌≡◌, ◌==◌, true, false, is_none, IfOk, OnErr};
 ghost use Rattle.smart_base.specs.Views.{is_member};
 ghost use Rattle.smart_service.specs.Tables.{kept_reply};
-ghost use Rattle.node_rules.specs.Rules.{asked_in, answering};
+ghost use Rattle.node_rules.specs.Rules.{called_by, answering};
 ghost use Rattle.node_rules.specs.Nodes.{view_of};
 ghost use Rattle.node_rules.specs.Arrivals.{why_ask};
 ghost use Rattle.node_judging.specs.Arriving.{why_offered, kept_unless};
 ghost use Rattle.smart_messages.specs.declared.message.Message.TheVariants as plain;
 
-use node_rules::node::{Asked, Why};
+use node_rules::node::{Asked, Called, Why};
 use node_state::seal::is_verified;
 use node_state::state::NodeState;
 use request_pool::pool::Offer;
 use smart_base::duplicate::Duplicate;
-use smart_base::name::ClientId;
 use smart_base::party::Party;
-use smart_messages::message::{Message, request_in};
+use smart_messages::message::Message;
 use smart_service::service::Service;
 use smart_service::table::Execution;
 use smart_statements::signed::Signed;
@@ -47,12 +46,13 @@ pub fn take_request<S: Service>(
     ensures why { IfOk result (λ why. why ≡ why_ask node.old request) }
     ensures node { IfOk result (λ why. node.new ≡ kept_unless why node.old (plain.Ask request)) }
     ensures err { OnErr result (node.new.entries ≡ node.old.entries) }
+    ensures snapshots { OnErr result (node.new.taken ≡ node.old.taken) }
 {
     if !node.view().is_member(node.id()) {
         return Ok(Some(Why::NotMember));
     }
     if request.signer() != 0 {
-        learn(node, request.statement().client)?;
+        learn(node, &request)?;
         return offer(node, request);
     }
     if is_verified(node.keys.ring(), &request) {
@@ -62,12 +62,18 @@ pub fn take_request<S: Service>(
     }
 }
 
-/// Learns the key of a client that asks, so that its tags cost less from then on. Error: want of
-/// memory.
-fn learn<S: Service>(node: &mut NodeState<S>, client: ClientId) -> Result<(), AllocError>
+/// Learns the key of a client that asks, so that its tags cost less from then on. Checks the tag of a
+/// request that was not executed, so that it is not made again for each batch that brings the request.
+/// Error: want of memory.
+fn learn<S: Service>(node: &mut NodeState<S>, request: &Signed<Request>) -> Result<(), AllocError>
     ensures { node.new ≡ node.old }
 {
-    node.keys.learn(Party::Client(client))
+    let asked = request.statement();
+    node.keys.learn(Party::Client(asked.client))?;
+    if asked.seq <= node.replica.replica().table.last_seq(asked.client) {
+        return Ok(());
+    }
+    node.keys.check(node.alloc, request)
 }
 
 /// Whether no reply to a request is kept.
@@ -92,6 +98,7 @@ fn offer<S: Service>(
     ensures why { IfOk result (λ why. why ≡ why_ask node.old request) }
     ensures node { IfOk result (λ why. node.new ≡ kept_unless why node.old (plain.Ask request)) }
     ensures err { OnErr result (node.new.entries ≡ node.old.entries) }
+    ensures snapshots { OnErr result (node.new.taken ≡ node.old.taken) }
 {
     let asked = request.statement();
     let gone = is_gone(node, asked);
@@ -100,47 +107,44 @@ fn offer<S: Service>(
     Ok(why_offered(offer, gone))
 }
 
-/// The client and number that a message asks for, if it is a request.
-pub fn asked_in(message: &Message) -> Option<Asked>
-    ensures { result ≡ asked_in message.now }
+/// What a message asks the node for.
+pub fn called_by(message: &Message) -> Called
+    ensures { result ≡ called_by message.now }
 {
-    match request_in(message) {
-        None => None,
-        Some(request) => {
+    match message {
+        Message::Ask(request) => {
             let asked = request.statement();
-            Some(Asked {
+            Called::Request(Asked {
                 client: asked.client,
                 seq: asked.seq,
             })
         }
+        Message::StateAsk(ask) => Called::State(*ask),
+        Message::StateOffer(_) => Called::Offered,
+        Message::Propose(_)
+        | Message::Vote(_)
+        | Message::Stop(_)
+        | Message::StopData(_)
+        | Message::Sync(_)
+        | Message::Decision(_)
+        | Message::Reply(_)
+        | Message::Mark(_)
+        | Message::StatePart(_) => Called::Nobody,
     }
 }
 
-/// A copy of a request's execution, if its reply is kept. Error: want of memory.
+/// A copy of the execution whose reply answers a repeated request, if that reply is kept. Error: want of
+/// memory.
 #[tactic(auto, unfolding(node_rules::specs::Rules::answering))]
-fn asked_again<S: Service>(
+pub fn answering<S: Service>(
     node: &NodeState<S>,
     asked: Asked,
 ) -> Result<Option<Execution>, AllocError>
-    ensures { IfOk result (λ line. line ≡ answering node.now (Some asked)) }
+    ensures { IfOk result (λ line. line ≡ answering node.now asked) }
 {
     let table = &node.replica.replica().table;
     match table.kept_reply(asked.client, asked.seq) {
         None => Ok(None),
         Some(execution) => Ok(Some(execution.duplicate(node.alloc)?)),
-    }
-}
-
-/// The execution whose reply answers a repeated request, if there is one. Error: want of memory.
-#[tactic(auto, unfolding(node_rules::specs::Rules::answering))]
-pub fn answering<S: Service>(
-    node: &NodeState<S>,
-    asked: Option<Asked>,
-) -> Result<Option<Execution>, AllocError>
-    ensures { IfOk result (λ line. line ≡ answering node.now asked) }
-{
-    match asked {
-        None => Ok(None),
-        Some(asked) => asked_again(node, asked),
     }
 }

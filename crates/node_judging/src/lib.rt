@@ -8,3 +8,4 @@ mod marks;
 mod reasons;
 mod reports;
 pub mod taking;
+pub mod transfers;

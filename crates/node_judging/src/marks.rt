@@ -26,6 +26,7 @@ pub fn take_mark<S: Service>(
     ensures why { IfOk result (λ why. why ≡ why_mark node.old mark) }
     ensures node { IfOk result (λ why. node.new ≡ kept_unless why (noted node.old (changes.Mark mark)) (changes.Mark mark)) }
     ensures err { OnErr result (node.new.entries ≡ node.old.entries) }
+    ensures snapshots { OnErr result (node.new.taken ≡ node.old.taken) }
 {
     let dropped = why_mark(node, &mark);
     note(node, &mark);
@@ -41,6 +42,7 @@ pub fn take_mark<S: Service>(
 fn keep_mark<S: Service>(node: &mut NodeState<S>, mark: Signed<Mark>) -> Result<(), AllocError>
     ensures node { OnOk result (node.new ≡ kept node.old (changes.Mark mark)) }
     ensures err { OnErr result (node.new.entries ≡ node.old.entries) }
+    ensures snapshots { OnErr result (node.new.taken ≡ node.old.taken) }
 {
     node.marks.note(mark)
 }

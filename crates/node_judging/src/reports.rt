@@ -36,6 +36,7 @@ pub fn take_stop<S: Service>(
     ensures why { IfOk result (λ why. why ≡ why_stop node.old stop) }
     ensures node { IfOk result (λ why. node.new ≡ kept_unless why (noted node.old (changes.Stop stop)) (changes.Stop stop)) }
     ensures err { OnErr result (node.new.entries ≡ node.old.entries) }
+    ensures snapshots { OnErr result (node.new.taken ≡ node.old.taken) }
 {
     let dropped = why_stop(node, &stop);
     note_view(node, &stop, stop.statement().view);
@@ -51,6 +52,7 @@ fn keep_stop<S: Service>(node: &mut NodeState<S>, stop: Signed<Stop>) -> Result<
     requires { why_stop node.old stop ≡ None }
     ensures node { OnOk result (node.new ≡ kept node.old (changes.Stop stop)) }
     ensures err { OnErr result (node.new.entries ≡ node.old.entries) }
+    ensures snapshots { OnErr result (node.new.taken ≡ node.old.taken) }
 {
     node.synchronizer.on_stop(stop)?;
     Ok(())
@@ -65,6 +67,7 @@ pub fn take_report<S: Service>(
     ensures why { IfOk result (λ why. why ≡ why_report node.old reported) }
     ensures node { IfOk result (λ why. node.new ≡ kept_unless why (noted node.old (changes.StopData reported)) (changes.StopData reported)) }
     ensures err { OnErr result (node.new.entries ≡ node.old.entries) }
+    ensures snapshots { OnErr result (node.new.taken ≡ node.old.taken) }
 {
     let dropped = why_report(node, &reported)?;
     note_view(node, &reported.head, reported.head.statement().view);
@@ -80,6 +83,7 @@ fn keep_report<S: Service>(node: &mut NodeState<S>, reported: Reported) -> Resul
     requires { why_report node.old reported ≡ None }
     ensures node { OnOk result (node.new ≡ kept node.old (changes.StopData reported)) }
     ensures err { OnErr result (node.new.entries ≡ node.old.entries) }
+    ensures snapshots { OnErr result (node.new.taken ≡ node.old.taken) }
 {
     let Reported { head, batch } = reported;
     node.synchronizer.on_stopdata(head, batch)?;
@@ -95,6 +99,7 @@ pub fn take_sync<S: Service>(
     ensures why { IfOk result (λ why. why ≡ why_sync node.old sync) }
     ensures node { IfOk result (λ why. node.new ≡ kept_unless why (noted node.old (changes.Sync sync)) (changes.Sync sync)) }
     ensures err { OnErr result (node.new.entries ≡ node.old.entries) }
+    ensures snapshots { OnErr result (node.new.taken ≡ node.old.taken) }
 {
     let dropped = why_sync(node, &sync);
     note_view(node, &sync, sync.statement().view);
@@ -113,6 +118,7 @@ fn keep_sync<S: Service>(node: &mut NodeState<S>, sync: Signed<Sync>) -> Result<
     requires { why_sync node.old sync ≡ None }
     ensures node { OnOk result (node.new ≡ record node.old { syncs = node.old.syncs ++ sync ∷ [] }) }
     ensures err { OnErr result (node.new.entries ≡ node.old.entries) }
+    ensures snapshots { OnErr result (node.new.taken ≡ node.old.taken) }
 {
     node.synchronizer.on_sync(sync)?;
     Ok(())

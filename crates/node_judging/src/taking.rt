@@ -8,6 +8,7 @@ use crate::arrivals::{take_proposal, take_vote, why_unasked};
 use crate::asks::take_request;
 use crate::marks::take_mark;
 use crate::reports::{take_report, take_stop, take_sync};
+use crate::transfers::{take_decision, take_offer, take_part, take_state_ask};
 use node_rules::node::Why;
 use node_state::state::NodeState;
 use smart_messages::message::Message;
@@ -24,6 +25,7 @@ pub fn take<S: Service>(
     ensures why { IfOk result (λ why. why ≡ why_dropped node.old message) }
     ensures node { IfOk result (λ why. node.new ≡ kept_unless why (noted node.old message) message) }
     ensures err { OnErr result (node.new.entries ≡ node.old.entries) }
+    ensures snapshots { OnErr result (node.new.taken ≡ node.old.taken) }
 {
     match message {
         Message::Ask(request) => take_request(node, request),
@@ -32,7 +34,11 @@ pub fn take<S: Service>(
         Message::Stop(stop) => take_stop(node, stop),
         Message::StopData(reported) => take_report(node, reported),
         Message::Sync(sync) => take_sync(node, sync),
+        Message::Decision(proven) => take_decision(node, proven),
         Message::Reply(answer) => Ok(why_unasked(node, &answer)),
         Message::Mark(mark) => take_mark(node, mark),
+        Message::StateAsk(ask) => Ok(take_state_ask(node, &ask)),
+        Message::StateOffer(offer) => take_offer(node, &offer),
+        Message::StatePart(part) => take_part(node, part),
     }
 }

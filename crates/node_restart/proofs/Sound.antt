@@ -28,19 +28,19 @@ among_push x e [] (inr none) = absurd none
 among_push x e (y ∷ ys) (inl is) = inl (inl is)
 among_push x e (y ∷ ys) (inr there) = ⊎_elim (λ front. inl (inr front)) (λ is. inr is) (among_push x e ys there)
 
-accept_sound : (secret : List ℕ) (view : View) (before : List LogEntry) (a : Accept) → FitsEntry (Accepted a) → may_restore secret 0 view before (Accepted a) ≡ true → IsSound secret a
-accept_sound secret view before a fits may =
-    let all = and_parts (opens_first before (Accepted a) && admits 0 (length before + 1) before (Accepted a)) (rests secret view (Accepted a)) may in
+accept_sound : (secret : List ℕ) (past : ℕ) (view : View) (before : List LogEntry) (a : Accept) → FitsEntry (Accepted a) → may_restore secret past view before (Accepted a) ≡ true → IsSound secret a
+accept_sound secret past view before a fits may =
+    let all = and_parts (opens_first before (Accepted a) && admits past (length before + 1) before (Accepted a)) (rests secret view (Accepted a)) may in
     let rest = and_parts ((a.slot.view == view.number) && is_none (votes_fault secret view (write_of a.slot a.digest) a.writes)) (is_batch_for secret a.slot.place a.digest a.batch) all.1 in
     record { fits = fits.batch_fits; stands = rest.1 }
 
-sound_after : (secret : List ℕ) (view : View) (before : List LogEntry) (e : LogEntry) → AreSound secret before → FitsEntry e → may_restore secret 0 view before e ≡ true → AreSound secret (before ++ e ∷ [])
-sound_after secret view before e sound fits may a there =
+sound_after : (secret : List ℕ) (past : ℕ) (view : View) (before : List LogEntry) (e : LogEntry) → AreSound secret before → FitsEntry e → may_restore secret past view before e ≡ true → AreSound secret (before ++ e ∷ [])
+sound_after secret past view before e sound fits may a there =
     ⊎_elim (λ front. sound a front)
-    (λ (is : Accepted a ≡ e). accept_sound secret view before a (subst (λ (x : LogEntry). FitsEntry x) (sym is) fits) (subst (λ (x : LogEntry). may_restore secret 0 view before x ≡ true) (sym is) may))
+    (λ (is : Accepted a ≡ e). accept_sound secret past view before a (subst (λ (x : LogEntry). FitsEntry x) (sym is) fits) (subst (λ (x : LogEntry). may_restore secret past view before x ≡ true) (sym is) may))
     (among_push (Accepted a) e before there)
 
-pub sound_took : {S : Type 0} (m : Meaning S) (secret : List ℕ) (r later : Restart S) (e : LogEntry) → AreSound secret r.entries → FitsEntry e → may_restore secret 0 (present r.replica.views) r.entries e ≡ true → later ≡ took m r e
+pub sound_took : {S : Type 0} (m : Meaning S) (secret : List ℕ) (r later : Restart S) (e : LogEntry) → AreSound secret r.entries → FitsEntry e → may_restore secret r.past (present r.replica.views) r.entries e ≡ true → later ≡ took m r e
     → AreSound secret later.entries
 sound_took {S = S} m secret r later e sound fits may is =
-    subst (λ (x : Restart S). AreSound secret x.entries) (sym is) (sound_after secret (present r.replica.views) r.entries e sound fits may)
+    subst (λ (x : Restart S). AreSound secret x.entries) (sym is) (sound_after secret r.past (present r.replica.views) r.entries e sound fits may)

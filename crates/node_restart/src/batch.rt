@@ -93,7 +93,7 @@ pub fn is_batch_for(
 
 /// The digest of a batch, if the batch may stand at a place. Error: want of memory.
 #[tactic(auto, unfolding(replica_rules::specs::Seals::digest_of, node_rules::specs::Arrivals::is_batch_for))]
-pub(crate) fn named_for(
+pub fn named_for(
     alloc: Global,
     ring: &Ring,
     place: u64,

@@ -8,7 +8,8 @@ use std::alloc::AllocError;
 #[derive(Debug, PartialEq, Eq, Drop)]
 pub enum ReopenFault {
     /// The entry of this number, from 1, is damaged. Its bytes are no entry, it may not stand after
-    /// those before it, or its evidence does not hold.
+    /// those before it, or its evidence does not hold. The number is 0 if the checkpoint's bytes are
+    /// the snapshot of no replica.
     Damaged { entry: u64 },
     /// Want of memory.
     NoMemory,

@@ -1,5 +1,5 @@
-//! The restart of a node from the entries that its disks restored (recovery: Dura-SMaRt, USENIX ATC
-//! 2013).
+//! The restart of a node from the checkpoint and the entries that its disks restored (recovery:
+//! Dura-SMaRt, USENIX ATC 2013).
 #![tactic(auto)]
 
 pub mod batch;

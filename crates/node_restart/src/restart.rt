@@ -1,14 +1,13 @@
 //! The replica and the book that restored entries give back.
-ghost use Rattle.std.specs.Prelude.{◌≡◌, ◌+◌, ◌<◌, ◌^◌, ℕ, ◌++◌, length, Some, None, false, IfOk, OnOk, IsErrOf};
+ghost use Rattle.std.specs.Prelude.{◌≡◌, ◌+◌, ◌<◌, ◌^◌, ℕ, length, max, Some, None, false, IfOk, OnOk, IsErrOf};
 ghost use Rattle.std.specs.Result.{is_err};
 ghost use Rattle.smart_base.specs.Views.{present};
 ghost use Rattle.vote_book.specs.Admission.{admits};
 ghost use Rattle.vote_book.specs.Books.{last_made};
 ghost use Rattle.vote_book.specs.Entries.{FitsEntry, entry_decoded};
-ghost use Rattle.node_rules.specs.Nodes.{Node};
-ghost use Rattle.node_rules.specs.Reopening.{opens_first, may_restore, damaged, entries_in, takes_all_back};
-ghost use Rattle.replica_rules.specs.Replicas.{empty};
-ghost use Rattle.node_restart.specs.Restarts.{Restart, replayed, begun, took, taken, AreSound, IsInTurn, place_behind};
+ghost use Rattle.vote_book.specs.declared.entry.LogEntry.TheVariants.{Decided};
+ghost use Rattle.node_rules.specs.Reopening.{opens_first, may_restore};
+ghost use Rattle.node_restart.specs.Restarts.{replayed, begun, took, taken, AreSound, IsInTurn, place_behind};
 ghost use Rattle.node_restart.specs.declared.fault.ReopenFault.TheVariants.{Damaged};
 
 use crate::fault::ReopenFault;
@@ -16,7 +15,6 @@ use crate::rests::{is_opening, rests};
 use delivery::replica::{KeptReplica, deliver};
 use smart_base::fault::ReadError;
 use smart_base::number::Place;
-use smart_base::sequence::Bytes;
 use smart_base::view::View;
 use smart_keys::ring::Ring;
 use smart_service::service::Service;
@@ -24,13 +22,15 @@ use std::alloc::{AllocError, Global};
 use std::marker::Model;
 use vote_book::book::Book;
 use vote_book::codec::decode_entry;
-use vote_book::entry::LogEntry;
+use vote_book::entry::{Decision, LogEntry};
 
-/// A replica and a book that restored entries give back, one by one. Each entry is read, checked
-/// after those before it, and written into the book again. What it decided is delivered, and nobody
-/// is answered.
+/// A replica and a book that restored entries give back, one by one, from the replica of a checkpoint
+/// or the empty one. Each entry is read, checked after those before it, and written into the book
+/// again. What it decided past the first replica's place is delivered, and nobody is answered.
 pub struct Restart<S> {
     alloc: Global,
+    /// The place of the replica with which it began.
+    past: Place,
     replica: KeptReplica<S>,
     book: Book,
 }
@@ -40,6 +40,7 @@ impl<S: Drop> Drop for Restart<S> {
     fn drop(self) {
         let Restart {
             alloc: _,
+            past: _,
             replica: _,
             book: _,
         } = self;
@@ -51,30 +52,53 @@ impl<S> Model for Restart<S> {
 
     ghost Value = { Restarts S };
 
-    ghost view = { λ r. record { replica = r.replica.replica; entries = r.book.entries } };
+    ghost view = { λ r. record { past = r.past; replica = r.replica.replica; entries = r.book.entries } };
 
-    ghost invariant = { λ r. IsReplayed r.replica.replica r.replica.spent r.book };
+    ghost invariant = { λ r. IsReplayed r.past r.replica.replica r.replica.spent r.book };
 }
 
-/// Delivers to a replica what an entry decided. Error: want of memory.
-#[tactic(auto, using(crate::proofs::Turns::replayed_decided))]
+/// Delivers to a replica what a decision past a place decided. Error: want of memory.
+#[tactic(auto, using(crate::proofs::Turns::replayed_past, crate::proofs::Turns::replayed_before, crate::proofs::Turns::place_past, crate::proofs::Turns::place_before, crate::proofs::Turns::next_past))]
+fn replay_decision<S: Service>(
+    alloc: Global,
+    replica: &mut KeptReplica<S>,
+    past: Place,
+    decision: &Decision,
+) -> Result<(), AllocError>
+    requires ready { replica.old.spent ≡ false }
+    requires turn { IsInTurn past replica.old.replica.place (Decided decision.now) }
+    ensures state { OnOk result (replica.new.replica ≡ replayed S.meaning past replica.old.replica (Decided decision.now)) }
+    ensures spent { replica.new.spent ≡ is_err result }
+    ensures place { replica.new.replica.place ≡ place_behind past replica.old.replica.place (Decided decision.now) }
+    ensures views { replica.new.replica.views ≡ replica.old.replica.views }
+{
+    // That a place is below 2^63 is known of its type.
+    let place = decision.slot.place.get();
+    let past = past.get();
+    if place <= past {
+        return Ok(());
+    }
+    deliver(alloc, replica, &decision.batch)?;
+    Ok(())
+}
+
+/// Delivers to a replica what an entry decided past a place. Error: want of memory.
 fn replay<S: Service>(
     alloc: Global,
     replica: &mut KeptReplica<S>,
+    past: Place,
     entry: &LogEntry,
 ) -> Result<(), AllocError>
     requires ready { replica.old.spent ≡ false }
-    requires turn { IsInTurn replica.old.replica.place entry.now }
-    ensures state { OnOk result (replica.new.replica ≡ replayed S.meaning replica.old.replica entry.now) }
+    requires turn { IsInTurn past replica.old.replica.place entry.now }
+    ensures state { OnOk result (replica.new.replica ≡ replayed S.meaning past replica.old.replica entry.now) }
     ensures spent { replica.new.spent ≡ is_err result }
-    ensures place { replica.new.replica.place ≡ place_behind replica.old.replica.place entry.now }
+    ensures place { replica.new.replica.place ≡ place_behind past replica.old.replica.place entry.now }
     ensures views { replica.new.replica.views ≡ replica.old.replica.views }
 {
     match entry {
         LogEntry::Decided(decision) => {
-            // That a place is below 2^63 is known of its type.
-            let _place = decision.slot.place.get();
-            deliver(alloc, replica, &decision.batch)?;
+            replay_decision(alloc, replica, past, decision)?;
             Ok(())
         }
         LogEntry::Opened(_)
@@ -88,16 +112,19 @@ fn replay<S: Service>(
 }
 
 impl<S: Service> Restart<S> {
-    /// The start of a restart: the replica before any batch, in a first view, and an empty book.
-    /// Error: want of memory.
-    pub fn begin(alloc: Global, view: View) -> Result<Self, AllocError>
-        ensures { IfOk result (λ restart. restart ≡ begun S.meaning view) }
+    /// The start of a restart: the replica of a checkpoint, or the one before any batch, and an empty
+    /// book.
+    pub fn begin(alloc: Global, replica: KeptReplica<S>) -> Self
+        requires { replica.spent ≡ false }
+        ensures { result ≡ begun replica.replica }
     {
-        Ok(Restart {
+        let past = replica.replica().place;
+        Restart {
             alloc,
-            replica: KeptReplica::empty(alloc, view)?,
-            book: Book::begin(alloc, Place::zero()),
-        })
+            past,
+            replica,
+            book: Book::begin(alloc, past),
+        }
     }
 
     /// The number of entries that are given back.
@@ -117,7 +144,7 @@ impl<S: Service> Restart<S> {
 
     /// Whether the book admits an entry as a restored one.
     fn admits(&self, entry: &LogEntry) -> bool
-        ensures { result ≡ admits 0 (length self.now.entries + 1) self.now.entries entry.now }
+        ensures { result ≡ admits self.now.past (length self.now.entries + 1) self.now.entries entry.now }
     {
         self.book.admits(entry)
     }
@@ -133,7 +160,7 @@ impl<S: Service> Restart<S> {
     fn may_restore(&self, ring: &Ring, entry: &LogEntry) -> Result<bool, AllocError>
         requires sound { AreSound ring.now self.now.entries }
         requires fits { FitsEntry entry.now }
-        ensures { IfOk result (λ may. may ≡ may_restore ring.now 0 (present self.now.replica.views) self.now.entries entry.now) }
+        ensures { IfOk result (λ may. may ≡ may_restore ring.now self.now.past (present self.now.replica.views) self.now.entries entry.now) }
     {
         if !self.opens_first(entry) || !self.admits(entry) {
             return Ok(false);
@@ -141,28 +168,32 @@ impl<S: Service> Restart<S> {
         rests(self.alloc, ring, self.view(), &self.book, entry)
     }
 
-    /// Writes an entry into the book, and delivers what it decided. Error: want of memory.
+    /// Writes an entry into the book, and delivers what it decided past the first replica's place. Error:
+    /// want of memory.
     fn push(self, entry: LogEntry) -> Result<Self, AllocError>
-        requires { IsInTurn self.replica.place entry }
+        requires { IsInTurn self.past self.replica.place entry }
         ensures later { IfOk result (λ later. later ≡ took S.meaning self entry) }
         ensures views { IfOk result (λ later. later.replica.views ≡ self.replica.views) }
     {
         let Restart {
             alloc,
+            past,
             mut replica,
             mut book,
         } = self;
-        replay(alloc, &mut replica, &entry)?;
+        replay(alloc, &mut replica, past, &entry)?;
         book.push(entry)?;
         Ok(Restart {
             alloc,
+            past,
             replica,
             book,
         })
     }
 
     /// Reads the next entry. Errors: the entry is damaged; want of memory.
-    fn take(self, ring: &Ring, bytes: &[u8]) -> Result<Self, ReopenFault>
+    #[tactic(auto, using(crate::proofs::Turns::in_turn))]
+    pub fn take(self, ring: &Ring, bytes: &[u8]) -> Result<Self, ReopenFault>
         requires sound { AreSound ring.now self.entries }
         ensures taken { IfOk result (λ later. taken S.meaning ring.now self (entry_decoded bytes.now) ≡ Some later) }
         ensures views { IfOk result (λ later. later.replica.views ≡ self.replica.views) }
@@ -184,42 +215,19 @@ impl<S: Service> Restart<S> {
     }
 
     /// The replica and the book. What is pushed into the book from then on is not restored. The
-    /// book's last place is the replica's.
+    /// book's last place is the replica's, or an earlier one if the restart began there.
     pub fn finish(self) -> (KeptReplica<S>, Book)
         ensures replica { result.0 ≡ record { replica = self.replica; spent = false } }
-        ensures book { result.1 ≡ record { opening = 0; restored = Some (length self.entries); entries = self.entries } }
-        ensures made { last_made self.entries ≡ self.replica.place }
+        ensures book { result.1 ≡ record { opening = self.past; restored = Some (length self.entries); entries = self.entries } }
+        ensures made { max self.past (last_made self.entries) ≡ self.replica.place }
     {
         let Restart {
             alloc: _,
+            past: _,
             replica,
             mut book,
         } = self;
         book.end_restored();
         (replica, book)
     }
-}
-
-/// What restored entries give back to a node of a group, whose first view this is. Errors: the number
-/// of the first damaged entry; want of memory.
-pub fn restarted<S: Service>(
-    alloc: Global,
-    ring: &Ring,
-    view: View,
-    restored: &[Bytes],
-) -> Result<Restart<S>, ReopenFault>
-    ensures whole { OnOk result (damaged ring.now 0 view restored.now ≡ None) }
-    ensures entries { IfOk result (λ r. r.entries ≡ entries_in restored.now) }
-    // A node before any batch that takes the entries back has them behind its own, and this replica.
-    ensures replica { IfOk result (λ r. (n : Node S) → n.replica ≡ empty S.meaning view → takes_all_back S.meaning 0 n (entries_in restored.now) ≡ record n { replica = r.replica; entries = n.entries ++ r.entries }) }
-    ensures cause { (entry : ℕ) → IsErrOf result (Damaged entry) → damaged ring.now 0 view restored.now ≡ Some entry }
-{
-    let mut restart = Restart::begin(alloc, view)?;
-    for bytes in restored {
-        match restart.take(ring, bytes.as_slice()) {
-            Ok(later) => restart = later,
-            Err(fault) => return Err(fault),
-        }
-    }
-    Ok(restart)
 }

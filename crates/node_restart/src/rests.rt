@@ -1,16 +1,16 @@
 //! The evidence of entries.
 ghost use Rattle.std.specs.Prelude.{◌≡◌, ◌==◌, ◌&&◌, true, is_none, IfOk};
 ghost use Rattle.smart_statements.specs.Batches.{FitsBatch};
-ghost use Rattle.certificates.specs.Certificates.{votes_fault, write_of, accept_of};
+ghost use Rattle.certificates.specs.Certificates.{votes_fault, marks_fault, write_of, accept_of};
 ghost use Rattle.replica_rules.specs.Seals.{digest_of};
 ghost use Rattle.node_rules.specs.Arrivals.{is_batch_for};
 ghost use Rattle.node_rules.specs.Reopening.{is_opening, rests};
 ghost use Rattle.node_restart.specs.Restarts.{named_for, AreSound};
 ghost use Rattle.vote_book.specs.Entries.{FitsEntry};
-ghost use Rattle.vote_book.specs.declared.entry.LogEntry.TheVariants.{Accepted, Decided};
+ghost use Rattle.vote_book.specs.declared.entry.LogEntry.TheVariants.{Accepted, Decided, Installed};
 
 use crate::batch::{is_batch_for, is_same, named_for};
-use certificates::check::{check_proof, check_write_cert};
+use certificates::check::{check_marks, check_proof, check_write_cert};
 use smart_base::bytes::Digest32;
 use smart_base::view::View;
 use smart_keys::ring::Ring;
@@ -18,7 +18,7 @@ use smart_statements::batch::Batch;
 use smart_statements::statement::Slot;
 use std::alloc::{AllocError, Global};
 use vote_book::book::Book;
-use vote_book::entry::{Accept, Decision, LogEntry};
+use vote_book::entry::{Accept, Decision, Installation, LogEntry};
 
 /// Whether an entry opens a book.
 pub fn is_opening(entry: &LogEntry) -> bool
@@ -127,6 +127,19 @@ fn decision_rests(
     }
 }
 
+/// Whether an installation has its certificate of marks. It needs no memory.
+fn installation_rests(ring: &Ring, view: &View, installation: &Installation) -> bool
+    ensures { result ≡ rests ring.now view.now (Installed installation.now) }
+{
+    let Installation {
+        place,
+        digest,
+        view: number,
+        marks,
+    } = installation;
+    *number == view.number() && check_marks(ring, view, *place, *digest, marks.as_slice()).is_ok()
+}
+
 /// Whether an entry's evidence holds in a view, after the entries of a book. It needs memory for the
 /// bytes of two batches alone. Error: want of memory.
 pub fn rests(
@@ -148,7 +161,6 @@ pub fn rests(
         | LogEntry::Promised(_)
         | LogEntry::Synced(_)
         | LogEntry::Marked(_) => Ok(true),
-        // INTERIM(transfer): an installation has no evidence yet.
-        LogEntry::Installed(_) => Ok(false),
+        LogEntry::Installed(installation) => Ok(installation_rests(ring, view, installation)),
     }
 }

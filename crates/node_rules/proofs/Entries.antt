@@ -1,5 +1,5 @@
 -- How many entries each rule adds to the book of a node, and an event with all of them.
-use Rattle.std.proofs.Common.{◌≡◌, ℕ, ◌+◌, ◌≤◌, ◌++◌, Bool, true, false, List, [], ◌∷◌, length, refl, subst, ap, sym, ◌∙◌, cond, arith, Option, Some, None, Result, Ok, Err}
+use Rattle.std.proofs.Common.{◌≡◌, ℕ, ◌+◌, ◌==◌, ◌≤◌, ◌++◌, Bool, true, false, List, [], ◌∷◌, length, refl, subst, ap, sym, ◌∙◌, cond, arith, Option, Some, None, is_some, Result, Ok, Err}
 use Rattle.std.proofs.lemmas.List.{append-nil, append_assoc, length-append}
 use Rattle.smart_statements.specs.Forms.{SignedBy}
 use Rattle.smart_statements.specs.Batches.{Batch}
@@ -9,6 +9,7 @@ use Rattle.smart_messages.specs.declared.regency.Sync.{Sync}
 use Rattle.smart_statements.specs.declared.report.Report.{Report}
 use Rattle.smart_messages.specs.declared.message.Proposed.{Proposed}
 use Rattle.smart_messages.specs.declared.message.Message.TheVariants.{Ask}
+use Rattle.smart_messages.specs.declared.message.Message.TheVariants as changes
 use Rattle.smart_messages.specs.declared.message.Message.{Message}
 use Rattle.smart_statements.specs.declared.entry.NodeEvent.{NodeEvent}
 use Rattle.smart_statements.specs.declared.entry.NodeEvent.TheVariants.{Arrive, Deliver, Firm, Tick}
@@ -16,20 +17,32 @@ use Rattle.smart_service.specs.Services.{Meaning}
 use Rattle.smart_service.specs.declared.table.Execution.{Execution}
 use Rattle.vote_book.specs.declared.entry.Decision.{Decision}
 use Rattle.vote_book.specs.declared.entry.LogEntry.{LogEntry}
-use Rattle.vote_book.specs.declared.entry.LogEntry.TheVariants.{Synced}
+use Rattle.vote_book.specs.declared.entry.LogEntry.TheVariants.{Synced, Marked}
 use Rattle.replica_rules.specs.Replicas.{is_next}
 use Rattle.replica_rules.specs.Pools.{offered}
-use Rattle.node_rules.specs.Nodes.{Node}
+use Rattle.node_rules.specs.Nodes.{Node, holding, holding_all}
+use Rattle.node_rules.specs.Marks.{firm_at, mark_of, mark_place, marks_place}
 use Rattle.node_rules.specs.Arrivals.{why_dropped, noted, kept}
-use Rattle.node_rules.specs.Rules.{lines_to_answer, replying, deliver_batch, delivers, proposing, propose_batch, proposes, writing, write_batch, writes, accepting, accept_batch, accepts, deciding, decide_batch, decides, asked_in, answering, answer_line, answers_again}
-use Rattle.node_rules.specs.Changes.{start_by_sync, promised_for, adopts_by, adoption, adopts, asks_next, joining, joins, promising, promise_next, promises, leading, lead_with, leads, timing, passes_on, presses, times}
+use Rattle.node_rules.specs.Rules.{lines_to_answer, replying, deliver_batch, delivers, proposing, propose_batch, proposes, writing, write_batch, writes, accepting, accept_batch, accepts, deciding, decide_batch, decides, answering, answer_line, answers_again}
+use Rattle.node_rules.specs.Changes.{start_by_sync, promised_for, adopts_by, adoption, adopts, asks_next, joining, joins, promising, promise_next, promises, leading, lead_with, leads, lags, asks_state, timing, passes_on, presses, times}
 use Rattle.node_rules.specs.Steps.{Taken, judged, reads, takes_in, Row, deliver_row, time_row, answer_row, turn_rows, vote_rows, end_rows, rules, pass, step_of}
 use Rattle.node_rules.specs.Kept.{trimmed, core_step}
 use Rattle.node_rules.specs.declared.node.Why.{Why}
 use Rattle.node_rules.specs.declared.node.Asked.{Asked}
+use Rattle.node_rules.specs.declared.node.Called.{Called}
+use Rattle.node_rules.specs.declared.node.Called.TheVariants as calls
+use Rattle.node_rules.specs.declared.node.Target.{Target}
+use Rattle.node_rules.specs.declared.node.Target.TheVariants as targets
+use Rattle.node_rules.specs.Transfers.{installing, installed_by, install_replica, is_of_group, spoil, install_by, install_fetch, installs, offer_for, shown_after, part_messages, offers_state, gives_parts, answers_state, planning, follow_plan, plans, answers_call}
+use Rattle.transfer_form.specs.declared.transfer.StateAsk.{StateAsk}
+use Rattle.state_transfer.specs.Fetches.{finished}
+use Rattle.state_transfer.specs.declared.choice.Plan.{Plan}
+use Rattle.state_transfer.specs.declared.fetch.Fetch.{Fetch}
+use Rattle.state_transfer.specs.declared.fetch.Spoiled.{Spoiled}
+use Rattle.smart_service.specs.declared.replica.Replica.{Replica}
 use Rattle.node_rules.specs.declared.node.Cause.{Cause}
 use Rattle.node_rules.specs.declared.node.Fired.{Fired}
-use Rattle.node_rules.proofs.Rulewise.{by_delivery, by_time, by_answer, by_step}
+use Rattle.node_rules.proofs.Rulewise.{by_mark, by_delivery, by_time, by_answer, by_step}
 use Rattle.node_rules.specs.Entries.{AddsAtMost}
 
 -- ---- additions
@@ -135,7 +148,7 @@ pub decides_adds : {S : Type 0} (n : Node S) → AddsAtMost 1 n.entries (decides
 unfolding decides
 decides_adds n = by_deciding n (deciding n)
 
--- ---- arrivals, time and delivery
+-- ---- arrivals and time
 
 pub noted_same : {S : Type 0} (n : Node S) (m : Message) → (noted n m).entries ≡ n.entries
 unfolding noted
@@ -155,7 +168,7 @@ unfolding answer_line
 by_answering n None = refl
 by_answering n (Some line) = refl
 
-pub answers_again_same : {S : Type 0} (n : Node S) (asked : Option Asked) → (answers_again n asked).entries ≡ n.entries
+pub answers_again_same : {S : Type 0} (n : Node S) (asked : Asked) → (answers_again n asked).entries ≡ n.entries
 unfolding answers_again
 answers_again_same n asked = by_answering n (answering n asked)
 
@@ -172,9 +185,66 @@ unfolding presses
 by_timing n true = by_patience n n.impatient
 by_timing n false = refl
 
+by_lagging : {S : Type 0} (n : Node S) (t : Bool) → (cond t (asks_state n) (cond (timing n) (presses n) n)).entries ≡ n.entries
+unfolding asks_state
+by_lagging n true = refl
+by_lagging n false = by_timing n (timing n)
+
 pub times_same : {S : Type 0} (n : Node S) → (times n).entries ≡ n.entries
 unfolding times
-times_same n = by_timing n (timing n)
+times_same n = by_lagging n (lags n)
+
+-- ---- what members exchange
+
+pub held_all_same : {S : Type 0} (messages : List Message) (n : Node S) (to : Target) → (holding_all n to messages).entries ≡ n.entries
+held_all_same [] n to = refl
+held_all_same (m ∷ ms) n to = held_all_same ms (holding n to m) to
+
+by_asking : {S : Type 0} (n : Node S) (a : StateAsk) (t : Bool) → (cond t (offers_state n a) (gives_parts n a)).entries ≡ n.entries
+unfolding offers_state gives_parts
+by_asking n a true = held_all_same (changes.StateOffer (offer_for n a.place) ∷ shown_after n a.place) n (targets.Node a.member)
+by_asking n a false = held_all_same (part_messages (firm_at n a.fetch)) n (targets.Node a.member)
+
+pub answers_state_same : {S : Type 0} (n : Node S) (a : StateAsk) → (answers_state n a).entries ≡ n.entries
+unfolding answers_state
+answers_state_same n a = by_asking n a (a.fetch == 0)
+
+by_planning : {S : Type 0} (n : Node S) (plan : Option Plan) → (follow_plan n plan).entries ≡ n.entries
+unfolding follow_plan
+by_planning n None = refl
+by_planning n (Some p) = refl
+
+pub plans_same : {S : Type 0} (n : Node S) → (plans n).entries ≡ n.entries
+unfolding plans
+plans_same n = by_planning n (planning n)
+
+pub answers_call_same : {S : Type 0} (n : Node S) (called : Called) → (answers_call n called).entries ≡ n.entries
+answers_call_same n calls.Nobody = refl
+answers_call_same n (calls.Request asked) = answers_again_same n asked
+answers_call_same n (calls.State a) = answers_state_same n a
+answers_call_same n calls.Offered = plans_same n
+
+by_group : {S : Type 0} (n : Node S) (f : Fetch) (r : Replica S) (t : Bool) → AddsAtMost 1 n.entries (cond t (install_replica n f r) (spoil n f)).entries
+unfolding install_replica spoil
+by_group n f r true = adds 1 n.entries (installed_by f.plan ∷ []) (omega arith)
+by_group n f r false = adds_fewer 0 1 n.entries n.entries (omega arith) (adds_none n.entries n.entries refl)
+
+pub by_finishing : {S : Type 0} (n : Node S) (f : Fetch) (made : Result (Replica S) Spoiled) → AddsAtMost 1 n.entries (install_by n f made).entries
+unfolding spoil
+by_finishing n f (Ok r) = by_group n f r (is_of_group n r)
+by_finishing n f (Err why) = adds_fewer 0 1 n.entries n.entries (omega arith) (adds_none n.entries n.entries refl)
+
+by_installing : {S : Type 0} (m : Meaning S) (n : Node S) (due : Option Fetch) → AddsAtMost 1 n.entries (install_fetch m n due).entries
+unfolding install_fetch
+by_installing m n None = adds_fewer 0 1 n.entries n.entries (omega arith) (adds_none n.entries n.entries refl)
+by_installing m n (Some f) = by_finishing n f (finished m f)
+
+-- an installation adds one entry at most
+pub installs_adds : {S : Type 0} (m : Meaning S) (n : Node S) → AddsAtMost 1 n.entries (installs m n).entries
+unfolding installs
+installs_adds m n = by_installing m n (installing n)
+
+-- ---- delivery
 
 replying_same : {S : Type 0} (lines : List Execution) (n : Node S) → (replying n lines).entries ≡ n.entries
 replying_same [] n = refl
@@ -220,11 +290,22 @@ pass_adds (most ∷ mosts) (r ∷ rows) each n cause fired =
 same_adds : (before after : List LogEntry) → after ≡ before → AddsAtMost 0 before after
 same_adds before after same = adds_none before after same
 
--- the row that delivers
-pub deliver_adds : {S : Type 0} (m : Meaning S) → RowAdds 0 (deliver_row m)
+-- a mark is one entry
+pub mark_place_adds : {S : Type 0} (m : Meaning S) (n : Node S) → (mark_place m n).entries ≡ n.entries ++ Marked (mark_of m n) ∷ []
+unfolding mark_place
+mark_place_adds m n = refl
+
+marks_adds : {S : Type 0} (m : Meaning S) (n x : Node S) (delivered : Bool) → x.entries ≡ n.entries → AddsAtMost 1 n.entries (marks_place m delivered x).entries
+marks_adds {S = S} m n x delivered same =
+    by_mark m (λ (y : Node S). AddsAtMost 1 n.entries y.entries) delivered x
+    (record { more = []; is = same ∙ sym (append-nil n.entries); few = omega arith })
+    (λ due. record { more = Marked (mark_of m x) ∷ []; is = mark_place_adds m x ∙ ap (λ (es : List LogEntry). es ++ Marked (mark_of m x) ∷ []) same; few = omega arith })
+
+-- the row that delivers, and marks
+pub deliver_adds : {S : Type 0} (m : Meaning S) → RowAdds 1 (deliver_row m)
 deliver_adds {S = S} m n cause fired =
-    by_delivery m (λ (x : Node S) (told : List Fired). AddsAtMost 0 n.entries x.entries) n cause fired (same_adds n.entries n.entries refl)
-    (same_adds n.entries (delivers m n).entries (delivers_same m n))
+    by_delivery m (λ (x : Node S) (told : List Fired). AddsAtMost 1 n.entries x.entries) n cause fired (record { more = []; is = sym (append-nil n.entries); few = omega arith })
+    (marks_adds m n (delivers m n) (is_some n.waiting) (delivers_same m n))
 
 -- those of time and of answers
 pub time_adds : (S : Type 0) → RowAdds {S = S} 0 time_row
@@ -234,7 +315,7 @@ time_adds S n cause fired =
 pub answer_adds : (S : Type 0) → RowAdds {S = S} 0 answer_row
 answer_adds S n cause fired =
     by_answer (λ (x : Node S) (told : List Fired). AddsAtMost 0 n.entries x.entries) n cause fired (same_adds n.entries n.entries refl)
-    (λ asked. same_adds n.entries (answers_again n asked).entries (answers_again_same n asked))
+    (λ called. same_adds n.entries (answers_call n called).entries (answers_call_same n called))
 
 -- a change of the regency adds at most three entries
 pub turns_add : (S : Type 0) → RowsAdd {S = S} (2 ∷ 0 ∷ 1 ∷ 0 ∷ []) turn_rows
@@ -264,12 +345,15 @@ adds_append [] others (r ∷ first) last one two = absurd one
 adds_append (most ∷ some) others [] last one two = absurd one
 adds_append (most ∷ some) others (r ∷ first) last one two = (one.0, adds_append some others first last one.1 two)
 
-pub rules_add : {S : Type 0} (m : Meaning S) → RowsAdd (0 ∷ 2 ∷ 0 ∷ 1 ∷ 0 ∷ 0 ∷ 1 ∷ 1 ∷ 1 ∷ 0 ∷ 0 ∷ []) (rules m)
+pub rules_add : {S : Type 0} (m : Meaning S) → RowsAdd (1 ∷ 1 ∷ 2 ∷ 0 ∷ 1 ∷ 0 ∷ 0 ∷ 1 ∷ 1 ∷ 1 ∷ 0 ∷ 0 ∷ []) (rules m)
 unfolding rules
 rules_add {S = S} m = (
-  λ n cause fired. deliver_adds m n cause fired,
-  adds_append (2 ∷ 0 ∷ 1 ∷ 0 ∷ []) (0 ∷ 1 ∷ 1 ∷ 1 ∷ 0 ∷ 0 ∷ []) turn_rows (vote_rows ++ end_rows) (turns_add S)
-      (adds_append (0 ∷ 1 ∷ 1 ∷ []) (1 ∷ 0 ∷ 0 ∷ []) vote_rows end_rows (votes_add S) (end_adds S)),
+  λ n cause fired. installs_adds m n,
+  (
+    λ n cause fired. deliver_adds m n cause fired,
+    adds_append (2 ∷ 0 ∷ 1 ∷ 0 ∷ []) (0 ∷ 1 ∷ 1 ∷ 1 ∷ 0 ∷ 0 ∷ []) turn_rows (vote_rows ++ end_rows) (turns_add S)
+        (adds_append (0 ∷ 1 ∷ 1 ∷ []) (1 ∷ 0 ∷ 0 ∷ []) vote_rows end_rows (votes_add S) (end_adds S)),
+  ),
 )
 
 -- ---- an event
@@ -290,16 +374,16 @@ takes_in_same n Tick = refl
 takes_in_same n Deliver = refl
 takes_in_same n (Firm count) = refl
 
-pub event_adds : {S : Type 0} (m : Meaning S) (n : Node S) (event : NodeEvent) → AddsAtMost 6 n.entries (step_of m n event).node.entries
+pub event_adds : {S : Type 0} (m : Meaning S) (n : Node S) (event : NodeEvent) → AddsAtMost 8 n.entries (step_of m n event).node.entries
 event_adds {S = S} m n event =
     let t : Taken S = takes_in n event in
     let same : t.node.entries ≡ n.entries = takes_in_same n event in
-    by_step m n event (λ (x : Node S) (told : List Fired). AddsAtMost 6 n.entries x.entries) (adds_fewer 0 6 n.entries t.node.entries (omega arith) (adds_none n.entries t.node.entries same))
-    (subst (λ (es : List LogEntry). AddsAtMost 6 es (pass (rules m) t.node t.cause []).0.entries) same
-    (pass_adds (0 ∷ 2 ∷ 0 ∷ 1 ∷ 0 ∷ 0 ∷ 1 ∷ 1 ∷ 1 ∷ 0 ∷ 0 ∷ []) (rules m) (rules_add m) t.node t.cause []))
+    by_step m n event (λ (x : Node S) (told : List Fired). AddsAtMost 8 n.entries x.entries) (adds_fewer 0 8 n.entries t.node.entries (omega arith) (adds_none n.entries t.node.entries same))
+    (subst (λ (es : List LogEntry). AddsAtMost 8 es (pass (rules m) t.node t.cause []).0.entries) same
+    (pass_adds (1 ∷ 1 ∷ 2 ∷ 0 ∷ 1 ∷ 0 ∷ 0 ∷ 1 ∷ 1 ∷ 1 ∷ 0 ∷ 0 ∷ []) (rules m) (rules_add m) t.node t.cause []))
 
 pub few_by_step : {S : Type 0} (m : Meaning S) (n : Node S) (event : NodeEvent) → AddsAtMost 8 n.entries (step_of m n event).node.entries
-few_by_step m n event = adds_fewer 6 8 n.entries _ (omega arith) (event_adds m n event)
+few_by_step m n event = event_adds m n event
 
 pub few_by_core : {S : Type 0} (m : Meaning S) (core : Node S) (event : NodeEvent) → AddsAtMost 8 core.entries (core_step m core event).node.entries
 unfolding core_step trimmed

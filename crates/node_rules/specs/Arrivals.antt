@@ -1,6 +1,6 @@
 -- The reasons for which a node drops an arriving message, and what it keeps of the others.
-use Rattle.std.specs.Prelude.{ℕ, ◌+◌, ◌==◌, nat_lt, nat_le, Bool, true, false, not, ◌&&◌, ◌||◌, List, [], ◌∷◌, ◌++◌, if◌then◌else◌, Option, Some, None, is_none}
-use Rattle.std.specs.List.{list_any}
+use Rattle.std.specs.Prelude.{ℕ, ◌+◌, ◌==◌, nat_lt, nat_le, Bool, true, false, not, ◌&&◌, ◌||◌, List, [], ◌∷◌, ◌++◌, if◌then◌else◌, Option, Some, None, is_some, is_none, option_map}
+use Rattle.std.specs.List.{list_any, list_all}
 use Rattle.smart_base.specs.Lists.{or_else, same_bytes}
 use Rattle.smart_base.specs.Views.{is_member, leader}
 use Rattle.smart_base.specs.declared.limits.TheConstants.{LAST_CLIENT}
@@ -24,6 +24,7 @@ use Rattle.smart_messages.specs.declared.message.Message.TheVariants as changes
 use Rattle.smart_messages.specs.declared.message.Message.TheVariants.{Ask, Propose, Vote, Reply}
 use Rattle.smart_messages.specs.declared.message.Proposed.{Proposed}
 use Rattle.smart_service.specs.Tables as tables
+use Rattle.certificates.specs.Certificates.{votes_fault, accept_of}
 use Rattle.certificates.specs.Collects.{evidence_holds, has_no_false_lock, collect_fault}
 use Rattle.state_marks.specs.Tables as tables_of_marks
 use Rattle.regency_sync.specs.Choices.{choice}
@@ -32,6 +33,16 @@ use Rattle.replica_rules.specs.Replicas.{is_next}
 use Rattle.replica_rules.specs.Seals.{is_verified, digest_of, is_managers, fits}
 use Rattle.replica_rules.specs.Pools.{offered}
 use Rattle.node_rules.specs.Nodes.{Node, view_of, regency_of, start_of, is_begun, bound_at, is_within, decided_place, synchronizer_of, ring_of}
+use Rattle.transfer_form.specs.declared.transfer.ProvenBatch.{ProvenBatch}
+use Rattle.transfer_form.specs.declared.transfer.StateAsk.{StateAsk}
+use Rattle.transfer_form.specs.declared.transfer.StateOffer.{StateOffer}
+use Rattle.transfer_form.specs.declared.transfer.StatePart.{StatePart}
+use Rattle.state_transfer.specs.Plans.{verified_offer}
+use Rattle.state_transfer.specs.Fetches.{part_fault, kept_unless}
+use Rattle.state_transfer.specs.declared.fetch.Fetch.{Fetch}
+use Rattle.state_transfer.specs.declared.fetch.Ignored.{Ignored}
+use Rattle.state_transfer.specs.declared.fetch.Ignored.TheVariants as ignored
+use Rattle.node_rules.specs.Marks.{firm_at}
 use Rattle.node_rules.specs.declared.node.Why.{Why}
 use Rattle.node_rules.specs.declared.node.Why.TheVariants.{NotMember, BadTag, Stranger, OldView, NewView, OldPlace, FarPlace, OldRegency, NewRegency, OldSeq, FarSeq, NotLeader, InvalidBatch, BadProof, Unbound, Unasked, Repeated}
 
@@ -192,6 +203,67 @@ why_mark n m =
     else if tables_of_marks.repeats n.marks m then Some Repeated
     else None
 
+-- ---- what members exchange to take over a replica
+
+-- the regency of votes: that of the first
+abbrev pub regency_by : List (SignedBy Ballot) → ℕ
+regency_by [] = 0
+regency_by (b ∷ bs) = b.statement.slot.regency
+
+-- the slot in which a batch was decided, in the view in force
+abbrev pub slot_shown : {S : Type 0} → Node S → ProvenBatch → Slot
+slot_shown n d = record { view = (view_of n).number; place = d.place; regency = regency_by d.accepts }
+
+-- a decided batch whose ACCEPTs prove it in the view in force
+unfoldable pub is_proven_batch : {S : Type 0} → Node S → ProvenBatch → Bool
+is_proven_batch n d = is_none (votes_fault (ring_of n) (view_of n) (accept_of (slot_shown n d) (digest_of d.batch)) d.accepts)
+
+-- The first reason to drop a DECISION. It may be of the next place alone, while no batch waits.
+unfoldable pub why_decision : {S : Type 0} → Node S → ProvenBatch → Option Why
+why_decision n d =
+    if nat_le d.place (decided_place n) then Some OldPlace
+    else if nat_lt (decided_place n + 1) d.place || is_some n.waiting then Some FarPlace
+    else if not (is_batch_for (ring_of n) d.place (digest_of d.batch) d.batch) then Some InvalidBatch
+    else if not (is_proven_batch n d) then Some BadProof
+    else if list_any (λ (o : ProvenBatch). o.place == d.place) n.decisions then Some Repeated
+    else None
+
+-- The first reason to drop an ask for state. The asker has to be at an earlier place. An ask for parts needs a firm snapshot of that place.
+unfoldable pub why_state_ask : {S : Type 0} → Node S → StateAsk → Option Why
+why_state_ask n a =
+    if a.fetch == 0
+    then (if nat_le n.replica.place a.place then Some FarPlace else None)
+    else (if is_none (firm_at n a.fetch) then Some OldPlace else None)
+
+-- an offer of a place and of marks that are all delivered
+abbrev pub is_old_offer : {S : Type 0} → Node S → StateOffer → Bool
+is_old_offer n o = nat_le o.place n.replica.place && list_all (λ (m : SignedBy Mark). nat_le m.statement.place n.replica.place) o.marks
+
+-- offers of one member and place
+abbrev pub is_same_offer : StateOffer → StateOffer → Bool
+is_same_offer a b = (b.member == a.member) && (b.place == a.place)
+
+-- the first reason to drop an offer
+unfoldable pub why_offer : {S : Type 0} → Node S → StateOffer → Option Why
+why_offer n o =
+    if is_old_offer n o then Some OldPlace
+    else if list_any (is_same_offer o) n.offers then Some Repeated
+    else None
+
+-- why a part is ignored, as a reason to drop it
+abbrev pub why_ignored : Ignored → Why
+why_ignored ignored.Unasked = Unasked
+why_ignored ignored.Repeated = Repeated
+
+-- the reason to drop a part, by the plan that stands
+abbrev pub part_why : Option Fetch → StatePart → Option Why
+part_why None p = Some Unasked
+part_why (Some f) p = option_map why_ignored (part_fault f p)
+
+-- the first reason to drop a part
+unfoldable pub why_part : {S : Type 0} → Node S → StatePart → Option Why
+why_part n p = part_why n.fetch p
+
 -- ---- messages
 
 -- the first reason to drop a message; none if it is kept
@@ -202,8 +274,12 @@ why_dropped n (Vote b) = why_vote n b
 why_dropped n (changes.Stop s) = why_stop n s
 why_dropped n (changes.StopData r) = why_report n r
 why_dropped n (changes.Sync s) = why_sync n s
+why_dropped n (changes.Decision d) = why_decision n d
 why_dropped n (Reply a) = why_unasked answers n a
 why_dropped n (changes.Mark m) = why_mark n m
+why_dropped n (changes.StateAsk a) = why_state_ask n a
+why_dropped n (changes.StateOffer o) = why_offer n o
+why_dropped n (changes.StatePart p) = why_part n p
 
 -- ---- what tells a node that it is behind
 
@@ -224,6 +300,9 @@ tells_behind n (changes.StopData r) = is_none (signer_why n (is_verified reports
 tells_behind n (changes.Sync s) = is_none (signer_why n (is_verified syncs (ring_of n) s) s.signer) && is_newer n s.statement.view
 tells_behind n (changes.Mark m) =
     is_verified marks (ring_of n) m && is_member (view_of n) m.signer && nat_lt (decided_place n + 1) m.statement.place
+tells_behind n (changes.Decision d) = nat_lt (decided_place n + 1) d.place
+tells_behind n (changes.StateAsk a) = nat_lt (decided_place n + 1) a.place
+tells_behind n (changes.StateOffer o) = nat_lt (decided_place n + 1) o.place
 tells_behind n _ = false
 
 -- the node with its note that it lags, if the message shows it or the note stands
@@ -243,5 +322,9 @@ kept n (changes.Sync s) = record n {
   syncs = n.syncs ++ s ∷ [];
   behind = n.behind || nat_lt (decided_place n + 1) (choice s.statement.collect).base;
 }
+kept n (changes.Decision d) = record n { decisions = n.decisions ++ d ∷ [] }
 kept n (Reply a) = n
 kept n (changes.Mark m) = record n { marks = tables_of_marks.noted m n.marks }
+kept n (changes.StateAsk a) = n
+kept n (changes.StateOffer o) = record n { offers = n.offers ++ verified_offer (ring_of n) o ∷ [] }
+kept n (changes.StatePart p) = record n { fetch = option_map (λ (f : Fetch). kept_unless None f p) n.fetch }

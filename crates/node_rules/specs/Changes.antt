@@ -152,15 +152,28 @@ lead_with n (Some collect) =
 unfoldable pub leads : {S : Type 0} → Node S → Node S
 leads n = lead_with n (leading n)
 
--- time: under pressure the node first passes its oldest request to the leader, and from the next time on asks for the next regency
+-- time: a node that lags asks for state. Under pressure a node first passes its oldest request to the leader, and from the next time on asks
+-- for the next regency.
 
--- pressure: a request waits, or the regency in force has not begun. INTERIM(transfer): a node that is no member or lags is under none.
+-- a node that lags: it is no member of the view in force, or has heard that it is behind
+abbrev pub lags : {S : Type 0} → Node S → Bool
+lags n = not (is_member (view_of n) n.id) || n.behind
+
+-- an ask for state, from where the node is
+abbrev pub state_ask : {S : Type 0} → Node S → ℕ → Message
+state_ask n fetch = changes.StateAsk (record { member = n.id; place = n.replica.place; fetch = fetch })
+
+-- what lagging does: forget what was offered and planned, and ask all members
+unfoldable pub asks_state : {S : Type 0} → Node S → Node S
+asks_state n = holding (record n { offers = []; fetch = None; behind = false }) targets.View (state_ask n 0)
+
+-- pressure: a request waits, or the regency in force has not begun; a node that lags is under none
 abbrev pub is_pressed : {S : Type 0} → Node S → Bool
-is_pressed n = is_member (view_of n) n.id && not n.behind && (nat_lt 0 (length n.pool) || not (is_synced n))
+is_pressed n = nat_lt 0 (length n.pool) || not (is_synced n)
 
--- the condition of acting on time: there is pressure, and a first wait to begin or a next regency to ask for
+-- the condition of acting on time: the node lags, or there is pressure, and a first wait to begin or a next regency to ask for
 unfoldable pub timing : {S : Type 0} → Node S → Bool
-timing n = is_pressed n && (not n.impatient || nat_lt (regency_of n + 1) (2 ^ 32))
+timing n = lags n || (is_pressed n && (not n.impatient || nat_lt (regency_of n + 1) (2 ^ 32)))
 
 -- the oldest request of a pool, if there is one, sent to the leader of the regency in force
 abbrev pub passes_on : {S : Type 0} → Node S → List (SignedBy Request) → Node S
@@ -173,4 +186,4 @@ presses n = if n.impatient then asks_next n else passes_on (record n { impatient
 
 -- the rule that acts on time: the first timeout passes the oldest request to the leader, later ones send STOP (Mod-SMaRt, EDCC 2012)
 unfoldable pub times : {S : Type 0} → Node S → Node S
-times n = if timing n then presses n else n
+times n = if lags n then asks_state n else if timing n then presses n else n

@@ -5,6 +5,7 @@ use Rattle.smart_messages.specs.Messages.{slot_of, some_of}
 use Rattle.smart_messages.specs.declared.message.Message.{Message}
 use Rattle.smart_statements.specs.declared.entry.NodeEvent.{NodeEvent}
 use Rattle.smart_service.specs.Services.{Meaning}
+use Rattle.transfer_form.specs.declared.transfer.ProvenBatch.{ProvenBatch}
 use Rattle.regency_sync.specs.Synchronizers.{needs_stop, needs_report, needs_sync}
 use Rattle.node_rules.specs.Nodes.{Node, view_of, regency_of, decided_place}
 use Rattle.node_rules.specs.Steps.{Outcome, step_of}
@@ -25,10 +26,15 @@ ahead_of n slot = is_ahead (view_of n).number (decided_place n) (regency_of n) s
 abbrev pub needed_by : {S : Type 0} → Node S → Message → Bool
 needed_by n message = is_needed (view_of n).number (decided_place n) (regency_of n) message
 
+-- a decided batch past the last decided place
+abbrev pub is_later : {S : Type 0} → Node S → ProvenBatch → Bool
+is_later n d = nat_lt (decided_place n) d.place
+
 -- the core of a node: without the messages and the notes of proposals that no rule can use again
 unfoldable pub trimmed : {S : Type 0} → Node S → Node S
 trimmed n = record n {
   arrivals = filter (needed_by n) n.arrivals;
+  decisions = filter (is_later n) n.decisions;
   stops = filter (needs_stop (view_of n).number (regency_of n)) n.stops;
   reports = filter (needs_report (view_of n).number (regency_of n)) n.reports;
   syncs = filter (needs_sync (view_of n).number (regency_of n)) n.syncs;

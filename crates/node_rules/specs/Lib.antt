@@ -5,7 +5,10 @@ pub mod Rules
 pub mod Changes
 pub mod Decisions
 pub mod Deliveries
+pub mod Marks
+pub mod Transfers
 pub mod Steps
 pub mod Kept
+pub mod Tails
 pub mod Reopening
 pub mod Entries

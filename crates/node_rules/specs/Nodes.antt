@@ -11,6 +11,9 @@ use Rattle.smart_messages.specs.declared.regency.Stop.{Stop}
 use Rattle.smart_messages.specs.declared.regency.Sync.{Sync}
 use Rattle.smart_messages.specs.declared.regency.Reported.{Reported}
 use Rattle.smart_messages.specs.declared.message.Message.{Message}
+use Rattle.transfer_form.specs.declared.transfer.ProvenBatch.{ProvenBatch}
+use Rattle.transfer_form.specs.declared.transfer.StateOffer.{StateOffer}
+use Rattle.state_transfer.specs.declared.fetch.Fetch.{Fetch}
 use Rattle.smart_service.specs.declared.replica.Replica.{Replica}
 use Rattle.vote_book.specs.Standing.{first_start}
 use Rattle.vote_book.specs.declared.entry.Start.{Start}
@@ -19,6 +22,7 @@ use Rattle.vote_book.specs.declared.entry.LogEntry.TheVariants.{Opened, Wrote, A
 use Rattle.regency_sync.specs.Synchronizers.{Synchronizer}
 use Rattle.replica_rules.specs.Seals.{signed}
 use Rattle.node_rules.specs.declared.node.Held.{Held}
+use Rattle.node_rules.specs.declared.node.OwnSnapshot.{OwnSnapshot}
 use Rattle.node_rules.specs.declared.node.Target.{Target}
 
 -- a member's node: its replica, what came and is still needed, its book, and what waits to be sent
@@ -27,14 +31,20 @@ pub record Node (S : Type 0) : Type 0 where
   pub id : ℕ
   -- the secret of the group: members and clients sign with it
   pub secret : List ℕ
+  -- the number of places in which each member takes one checkpoint; 0 if none does
+  pub period : ℕ
   -- the service, the table of clients and the views, after the delivered places
   pub replica : Replica S
+  -- the place of the checkpoint with which this life began, 0 without one
+  pub opening : ℕ
   -- the batch that is decided and not yet delivered
   pub waiting : Option Batch
   -- the pool: requests that wait to be proposed, in the order in which their clients came
   pub pool : List (SignedBy Request)
   -- proposals and votes that were kept in this life, in the order in which they came
   pub arrivals : List Message
+  -- decided batches that others showed, and that were kept in this life
+  pub decisions : List ProvenBatch
   -- STOPs that were kept in this life: members' wishes for a next regency
   pub stops : List (SignedBy Stop)
   -- STOPDATA that were kept in this life: members' reports to a new leader, each with the batch of its lock
@@ -44,11 +54,19 @@ pub record Node (S : Type 0) : Type 0 where
   -- marks that were kept in this life: what members state of their replicas. Of each member there is one of each place, and of those the 64
   -- greatest places.
   pub marks : List (SignedBy Mark)
-  -- the book: every entry that the member has written, oldest first
+  -- offers of snapshots that were kept since a tick at which the node lagged, each without the marks whose tags do not verify
+  pub offers : List StateOffer
+  -- the plan of a snapshot to take over, if there is one, and the parts that came for it
+  pub fetch : Option Fetch
+  -- the book of this life: the entries that were restored, and then those that the node made
   pub entries : List LogEntry
+  -- the snapshot of the checkpoint with which this life began, if there was one
+  pub checkpoint : Option OwnSnapshot
+  -- the snapshots that the node took in this life, each at its own turn or from others, oldest first
+  pub taken : List OwnSnapshot
   -- the number of entries that were restored at the start of this life
   pub restored : ℕ
-  -- the number of entries that are firm, which means that every crash leaves them
+  -- the number of entries that are firm, which means that every crash leaves them, or what stands for them
   pub firm : ℕ
   -- the outbox: messages that wait until entries are firm, in the order in which they leave
   pub held : List Held
@@ -175,6 +193,11 @@ signs n form s = signed form n.secret n.id s
 -- a message put into the outbox; it leaves after all entries that the book has now are firm
 abbrev pub holding : {S : Type 0} → Node S → Target → Message → Node S
 holding n to message = record n { held = n.held ++ record { to = to; message = message; needs = length n.entries } ∷ [] }
+
+-- messages put into the outbox for one party, in order
+abbrev pub holding_all : {S : Type 0} → Node S → Target → List Message → Node S
+holding_all n to [] = n
+holding_all n to (m ∷ ms) = holding_all (holding n to m) to ms
 
 -- a message around a statement that the node signs, put into the outbox. Each message that a rule makes around a statement of its own goes
 -- this way.

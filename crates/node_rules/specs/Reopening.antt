@@ -1,18 +1,23 @@
--- The restart of a node after a crash, from the entries that its disks restored (recovery from the log: Dura-SMaRt, USENIX ATC 2013).
+-- The restart of a node after a crash, from the checkpoint and the entries that its disks restored (recovery from checkpoint and log:
+-- Dura-SMaRt, USENIX ATC 2013).
 use Rattle.std.specs.Prelude.{ℕ, ◌+◌, ◌==◌, Bool, true, false, ◌&&◌, List, [], ◌∷◌, ◌++◌, length, filter_map, if◌then◌else◌, Option, Some, None, is_none, Result, Ok, Err}
-use Rattle.smart_base.specs.Views.{View}
+use Rattle.smart_base.specs.Views.{View, present}
 use Rattle.smart_service.specs.Services.{Meaning}
-use Rattle.certificates.specs.Certificates.{votes_fault, write_of, accept_of}
+use Rattle.smart_service.specs.declared.replica.Replica.{Replica}
+use Rattle.snapshot_form.specs.Snapshots as snapshots
+use Rattle.certificates.specs.Certificates.{votes_fault, marks_fault, write_of, accept_of}
 use Rattle.vote_book.specs.Admission.{admits}
 pub use Rattle.node_rules.specs.Decisions.{batch_past, decided_of}
 use Rattle.vote_book.specs.Entries.{entry_decoded}
 use Rattle.vote_book.specs.declared.entry.LogEntry.{LogEntry}
 use Rattle.vote_book.specs.declared.entry.LogEntry.TheVariants.{Opened, Wrote, Accepted, Promised, Synced, Decided, Installed, Marked}
-use Rattle.replica_rules.specs.Replicas.{after_batches}
+use Rattle.replica_rules.specs.Replicas.{empty, after_batches}
 use Rattle.replica_rules.specs.Seals.{digest_of}
 use Rattle.node_rules.specs.Nodes.{Node, recording}
 use Rattle.node_rules.specs.Arrivals.{is_batch_for}
 use Rattle.node_rules.specs.Steps.{Outset, opened}
+use Rattle.node_rules.specs.declared.node.OwnSnapshot.{OwnSnapshot}
+use Rattle.node_rules.specs.declared.node.Parts.{Parts}
 
 -- ---- which entries are lawful
 
@@ -28,7 +33,7 @@ is_opening (Installed i) = false
 is_opening (Marked m) = false
 
 -- an entry whose evidence holds, as members of the view signed it. An accept has its certificate of WRITEs, a decision its proof, and each
--- batch may stand at its place. INTERIM(views): there is one view. INTERIM(transfer): an installation has no evidence yet.
+-- batch may stand at its place. An installation has a certificate of marks. INTERIM(views): there is one view.
 abbrev pub rests : List ℕ → View → LogEntry → Bool
 rests secret view (Opened o) = true
 rests secret view (Wrote w) = true
@@ -42,7 +47,7 @@ rests secret view (Decided d) =
     (d.slot.view == view.number)
     && is_none (votes_fault secret view (accept_of d.slot (digest_of d.batch)) d.accepts)
     && is_batch_for secret d.slot.place (digest_of d.batch) d.batch
-rests secret view (Installed i) = false
+rests secret view (Installed i) = (i.view == view.number) && is_none (marks_fault secret view i.place i.digest i.marks)
 rests secret view (Marked m) = true
 
 -- a book's first entry opens it
@@ -100,3 +105,45 @@ stopped o = record (opened o) { entries = []; behind = true }
 unfoldable pub reopened : {S : Type 0} → Meaning S → Outset S → List LogEntry → Node S
 reopened m o [] = record (opened o) { behind = true }
 reopened m o (e ∷ es) = record (takes_all_back m o.replica.place (stopped o) (e ∷ es)) { restored = length (e ∷ es); firm = length (e ∷ es) }
+
+-- ---- from a checkpoint and the entries behind it
+
+-- The replica with which a restart begins: that of the checkpoint, or the empty one if there is no checkpoint. None if the checkpoint's bytes are
+-- the snapshot of no replica.
+abbrev pub replica_from : {S : Type 0} → Meaning S → View → Option (List ℕ) → Option (Replica S)
+replica_from m view None = Some (empty m view)
+replica_from m view (Some snapshot) = snapshots.restored m snapshot
+
+-- the number of the first damaged part, if there is one: 0 if the checkpoint holds no replica, else that of the first damaged entry, from 1
+abbrev pub damaged_behind : {S : Type 0} → List ℕ → List (List ℕ) → Option (Replica S) → Option ℕ
+damaged_behind secret entries None = Some 0
+damaged_behind secret entries (Some r) = damaged secret r.place (present r.views) entries
+
+-- the number of the first damaged one of a restart's parts, if there is one
+unfoldable pub damage_of : {S : Type 0} → Meaning S → List ℕ → View → Parts → Option ℕ
+damage_of m secret view parts = damaged_behind secret parts.entries (replica_from m view parts.snapshot)
+
+-- a replica, or the empty one if there is none
+abbrev pub or_empty : {S : Type 0} → Meaning S → View → Option (Replica S) → Replica S
+or_empty m view None = empty m view
+or_empty m view (Some r) = r
+
+-- the snapshot of a checkpoint that holds a replica; it is firm
+abbrev pub checkpoint_of : {S : Type 0} → Option (Replica S) → Option (List ℕ) → Option OwnSnapshot
+checkpoint_of None snapshot = None
+checkpoint_of (Some r) None = None
+checkpoint_of (Some r) (Some snapshot) = Some (record { place = r.place; snapshot = snapshot; needs = 0 })
+
+-- what a restart begins from. If the checkpoint holds no replica, the empty one stands for it.
+abbrev pub outset_from : {S : Type 0} → Meaning S → List ℕ → ℕ → View → ℕ → Option (List ℕ) → Outset S
+outset_from m secret id view period snapshot = record {
+  member = id;
+  secret = secret;
+  period = period;
+  replica = or_empty m view (replica_from m view snapshot);
+  checkpoint = checkpoint_of (replica_from m view snapshot) snapshot;
+}
+
+-- the node after a restart from parts
+unfoldable pub reopened_from : {S : Type 0} → Meaning S → List ℕ → ℕ → View → ℕ → Parts → Node S
+reopened_from m secret id view period parts = reopened m (outset_from m secret id view period parts.snapshot) (entries_in parts.entries)

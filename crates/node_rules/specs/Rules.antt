@@ -1,9 +1,9 @@
 -- The rules that order requests and answer them. Each rule has three definitions: what is due, what the rule does with it, and both
 -- together.
-use Rattle.std.specs.Prelude.{ℕ, ◌+◌, ◌^◌, ◌==◌, nat_lt, not, ◌&&◌, List, [], ◌∷◌, ◌++◌, length, if◌then◌else◌, Option, Some, None, option_map, false}
+use Rattle.std.specs.Prelude.{ℕ, ◌+◌, ◌^◌, ◌==◌, nat_lt, not, ◌&&◌, List, [], ◌∷◌, ◌++◌, length, find, filter_map, if◌then◌else◌, Option, Some, None, option_map, Bool, false}
 use Rattle.std.specs.List.{list_any}
 use Rattle.smart_base.specs.Lists.{or_else}
-use Rattle.smart_base.specs.Views.{is_member, leader}
+use Rattle.smart_base.specs.Views.{View, is_member, leader, first_quorum}
 use Rattle.smart_statements.specs.Equality.{same_slot}
 use Rattle.smart_statements.specs.Kinds.{proposals, ballots, answers}
 use Rattle.smart_statements.specs.Batches.{Batch}
@@ -15,9 +15,10 @@ use Rattle.smart_statements.specs.declared.statement.Answer.{Answer}
 use Rattle.smart_statements.specs.declared.statement.Slot.{Slot}
 use Rattle.smart_statements.specs.declared.statement.VoteKind.{VoteKind}
 use Rattle.smart_statements.specs.declared.statement.VoteKind.TheVariants.{Write, Accept}
-use Rattle.smart_messages.specs.Messages.{request_in}
 use Rattle.smart_messages.specs.declared.message.Message.{Message}
-use Rattle.smart_messages.specs.declared.message.Message.TheVariants.{Propose, Vote, Reply}
+use Rattle.smart_messages.specs.declared.message.Message.TheVariants.{Ask, Propose, Vote, Reply}
+use Rattle.smart_messages.specs.declared.message.Message.TheVariants as changes
+use Rattle.transfer_form.specs.declared.transfer.ProvenBatch.{ProvenBatch}
 use Rattle.smart_messages.specs.declared.message.Proposed.{Proposed}
 use Rattle.smart_service.specs.Services.{Meaning}
 use Rattle.smart_service.specs.declared.table.Execution.{Execution}
@@ -31,7 +32,10 @@ use Rattle.replica_rules.specs.Seals.{signed, digest_of}
 use Rattle.replica_rules.specs.Pools.{settled, gathered}
 use Rattle.node_rules.specs.Votes.{has_quorum, certificate_votes, proposed_for, known, accepted_in, decision_by, accepted_under}
 use Rattle.node_rules.specs.Nodes.{Node, view_of, regency_of, start_of, next_place, open_slot, is_free, is_open, bound_at, is_within, synchronizer_of, signs, sending, recording}
+use Rattle.node_rules.specs.Arrivals.{slot_shown}
 use Rattle.node_rules.specs.declared.node.Asked.{Asked}
+use Rattle.node_rules.specs.declared.node.Called.{Called}
+use Rattle.node_rules.specs.declared.node.Called.TheVariants as calls
 use Rattle.node_rules.specs.declared.node.Target.TheVariants as targets
 use Rattle.node_rules.specs.declared.node.Fired.{Fired}
 use Rattle.node_rules.specs.declared.node.Fired.TheVariants as fires
@@ -194,9 +198,28 @@ decision_in n regency =
 abbrev pub decision_ahead : {S : Type 0} → Node S → Option Decision
 decision_ahead n = if nat_lt (regency_of n + 1) (2 ^ 32) then decision_in n (regency_of n + 1) else None
 
--- the decision that is due, if the node is free: in the regency in force first, then in the next one
+-- a member that has signed some votes
+abbrev pub has_signed : List (SignedBy Ballot) → ℕ → Bool
+has_signed votes member = list_any (λ (b : SignedBy Ballot). b.signer == member) votes
+
+-- the votes of the first members by number that make a quorum
+abbrev pub first_votes : View → List (SignedBy Ballot) → List (SignedBy Ballot)
+first_votes v votes = filter_map (λ member. find (λ (b : SignedBy Ballot). b.signer == member) votes) (first_quorum v (has_signed votes))
+
+-- the decision that others showed, in the view in force, with the first quorum's ACCEPTs
+abbrev pub decision_shown : {S : Type 0} → Node S → ProvenBatch → Decision
+decision_shown n d = record { slot = slot_shown n d; batch = d.batch; accepts = first_votes (view_of n) d.accepts }
+
+-- the first kept decision of the next place
+abbrev pub shown_next : {S : Type 0} → Node S → Option ProvenBatch
+shown_next n = find (λ (d : ProvenBatch). d.place == next_place n) n.decisions
+
+-- the decision that is due, if the node is free: what others showed first, then in the regency in force, then in the next one
 unfoldable pub deciding : {S : Type 0} → Node S → Option Decision
-deciding n = if is_free n then or_else (decision_in n (regency_of n)) (decision_ahead n) else None
+deciding n =
+    if is_free n
+    then or_else (option_map (decision_shown n) (shown_next n)) (or_else (decision_in n (regency_of n)) (decision_ahead n))
+    else None
 
 -- what a decision does: record it with its proof, and let its batch wait for delivery
 unfoldable pub decide_batch : {S : Type 0} → Node S → Option Decision → Node S
@@ -214,14 +237,24 @@ decides n = decide_batch n (deciding n)
 abbrev pub asking : SignedBy Request → Asked
 asking q = record { client = q.statement.client; seq = q.statement.seq }
 
--- the client and the number that a message asks for, if it is a request
-abbrev pub asked_in : Message → Option Asked
-asked_in m = option_map asking (request_in m)
+-- what a message asks the node for
+abbrev pub called_by : Message → Called
+called_by (Ask q) = calls.Request (asking q)
+called_by (Propose p) = calls.Nobody
+called_by (Vote b) = calls.Nobody
+called_by (changes.Stop s) = calls.Nobody
+called_by (changes.StopData r) = calls.Nobody
+called_by (changes.Sync s) = calls.Nobody
+called_by (changes.Decision d) = calls.Nobody
+called_by (Reply a) = calls.Nobody
+called_by (changes.Mark m) = calls.Nobody
+called_by (changes.StateAsk a) = calls.State a
+called_by (changes.StateOffer o) = calls.Offered
+called_by (changes.StatePart p) = calls.Nobody
 
 -- the execution whose reply is due again: the one of the request, if its reply is kept
-unfoldable pub answering : {S : Type 0} → Node S → Option Asked → Option Execution
-answering n None = None
-answering n (Some asked) = kept_reply n.replica.table asked.client asked.seq
+unfoldable pub answering : {S : Type 0} → Node S → Asked → Option Execution
+answering n asked = kept_reply n.replica.table asked.client asked.seq
 
 -- a kept reply put into the outbox, if there is one
 unfoldable pub answer_line : {S : Type 0} → Node S → Option Execution → Node S
@@ -229,5 +262,5 @@ answer_line n None = n
 answer_line n (Some line) = replies_with n line
 
 -- the rule that answers a repeated request (the kept reply of state machine replication)
-unfoldable pub answers_again : {S : Type 0} → Node S → Option Asked → Node S
+unfoldable pub answers_again : {S : Type 0} → Node S → Asked → Node S
 answers_again n asked = answer_line n (answering n asked)

@@ -1,5 +1,5 @@
 -- A step of a node: one event is taken in, and then the rules pass, each once, in their order. Also the messages that leave.
-use Rattle.std.specs.Prelude.{ℕ, ◌+◌, ◌-◌, ◌^◌, min, nat_le, List, [], ◌∷◌, ◌++◌, if◌then◌else◌, Option, Some, None, Result, Ok, Err, false}
+use Rattle.std.specs.Prelude.{ℕ, ◌+◌, ◌-◌, ◌^◌, min, nat_le, List, [], ◌∷◌, ◌++◌, if◌then◌else◌, Option, Some, None, is_some, Result, Ok, Err, false}
 use Rattle.smart_base.specs.Views.{View, present}
 use Rattle.smart_messages.specs.Messages.{decoded}
 use Rattle.smart_messages.specs.declared.message.Message.{Message}
@@ -11,8 +11,12 @@ use Rattle.vote_book.specs.declared.entry.LogEntry.TheVariants.{Opened}
 use Rattle.replica_rules.specs.Replicas.{empty}
 use Rattle.node_rules.specs.Nodes.{Node, next_place}
 use Rattle.node_rules.specs.Arrivals.{why_dropped, noted, kept}
-use Rattle.node_rules.specs.Rules.{fired_if, delivers, delivery, proposing, proposes, writing, writes, accepting, accepts, deciding, decides, asked_in, answering, answers_again}
+use Rattle.node_rules.specs.Rules.{fired_if, delivers, delivery, proposing, proposes, writing, writes, accepting, accepts, deciding, decides, called_by}
 use Rattle.node_rules.specs.Changes.{fired_when, fired_adopt, adoption, adopts, joining, joins, next_promise, promising, promises, leading, leads, timing, times}
+use Rattle.node_rules.specs.Marks.{marks_place, marked}
+use Rattle.node_rules.specs.Transfers.{installing, installs, install_told, answers_call, answered_call}
+use Rattle.node_rules.specs.declared.node.Called.TheVariants as calls
+use Rattle.node_rules.specs.declared.node.OwnSnapshot.{OwnSnapshot}
 use Rattle.node_rules.specs.declared.node.Cause.{Cause}
 use Rattle.node_rules.specs.declared.node.Cause.TheVariants.{Came, Ticked, Delivering, Firmed}
 use Rattle.node_rules.specs.declared.node.Why.{Why}
@@ -41,13 +45,13 @@ made_firm n count = record n { firm = min (n.restored + count) (2 ^ 64 - 1) }
 
 -- what a message makes of a node before any rule, by the reason that drops it. A dropped message is kept nowhere; it can only show that the node lags.
 abbrev pub judged : {S : Type 0} → Node S → Message → Option Why → Taken S
-judged n message None = record { node = kept (noted n message) message; cause = Came (asked_in message); dropped = None }
-judged n message (Some why) = record { node = noted n message; cause = Came None; dropped = Some why }
+judged n message None = record { node = kept (noted n message) message; cause = Came (called_by message); dropped = None }
+judged n message (Some why) = record { node = noted n message; cause = Came calls.Nobody; dropped = Some why }
 
 -- what bytes make of a node before any rule, after they are read. Bytes that are no message are dropped.
 abbrev pub reads : {S : Type 0} → Node S → Result Message ℕ → Taken S
 reads n (Ok message) = judged n message (why_dropped n message)
-reads n (Err at) = record { node = n; cause = Came None; dropped = Some Unread }
+reads n (Err at) = record { node = n; cause = Came calls.Nobody; dropped = Some Unread }
 
 -- what an event makes of a node before any rule
 unfoldable pub takes_in : {S : Type 0} → Node S → NodeEvent → Taken S
@@ -64,9 +68,14 @@ Row S = Node S → Cause → List Fired → Node S × List Fired
 abbrev pub row : {S : Type 0} → (Node S → Node S) → (Node S → List Fired) → Row S
 row rule tells n cause fired = (rule n, fired ++ tells n)
 
--- the row of the rule that delivers, where the service is to execute what waits
+-- the row of the rule that installs
+abbrev pub install_row : {S : Type 0} → Meaning S → Row S
+install_row m = row (installs m) (λ n. install_told m n (installing n))
+
+-- the row of the rules that deliver and mark, where the service is to execute what waits
 abbrev pub deliver_row : {S : Type 0} → Meaning S → Row S
-deliver_row m n Delivering fired = (delivers m n, fired ++ delivery m n n.waiting)
+deliver_row m n Delivering fired =
+    (marks_place m (is_some n.waiting) (delivers m n), (fired ++ delivery m n n.waiting) ++ marked m (is_some n.waiting) (delivers m n))
 deliver_row m n _ fired = (n, fired)
 
 -- the row of the rule that adopts
@@ -106,9 +115,9 @@ abbrev pub time_row : {S : Type 0} → Row S
 time_row n Ticked fired = (times n, fired ++ fired_when fires.Timed (timing n))
 time_row n _ fired = (n, fired)
 
--- the row of the rule that answers again, where a request came
+-- the row of the rules that answer what came
 abbrev pub answer_row : {S : Type 0} → Row S
-answer_row n (Came asked) fired = (answers_again n asked, fired ++ fired_if fires.Answered (answering n asked))
+answer_row n (Came called) fired = (answers_call n called, fired ++ answered_call n called)
 answer_row n _ fired = (n, fired)
 
 -- the rules of a leader change
@@ -125,7 +134,7 @@ end_rows = decide_row ∷ (time_row ∷ (answer_row ∷ []))
 
 -- the rules of a node, in their order
 unfoldable pub rules : {S : Type 0} → Meaning S → List (Row S)
-rules m = deliver_row m ∷ (turn_rows ++ (vote_rows ++ end_rows))
+rules m = install_row m ∷ (deliver_row m ∷ (turn_rows ++ (vote_rows ++ end_rows)))
 
 -- one pass of rules: each once, on what the one before it left
 unfoldable pub pass : {S : Type 0} → List (Row S) → Node S → Cause → List Fired → Node S × List Fired
@@ -171,32 +180,41 @@ released n = record n { held = staying n.firm n.held }
 -- ---- what a node begins from
 
 -- an outset: what a node begins from, whether it opens its book or goes on from entries. It has the node's member, the secret of the group,
--- after how many places a mark is made, and the replica. INTERIM(checkpoints): the replica is the empty one.
+-- the period, and the replica. That is the empty one, or the one of a checkpoint.
 pub record Outset (S : Type 0) : Type 0 where
   pub member : ℕ
   pub secret : List ℕ
   pub period : ℕ
   pub replica : Replica S
+  -- the snapshot of the checkpoint, if there is one
+  pub checkpoint : Option OwnSnapshot
 
 -- the outset of a member in a new group: its replica is empty
 abbrev pub outset : {S : Type 0} → Meaning S → List ℕ → ℕ → View → ℕ → Outset S
-outset m secret id view period = record { member = id; secret = secret; period = period; replica = empty m view }
+outset m secret id view period = record { member = id; secret = secret; period = period; replica = empty m view; checkpoint = None }
 
--- a new node of a group: its book has the opening alone, which states the member, the view and after how many places a mark is made
+-- a new node of a group: its book has the opening alone, which states the member, the period and the view
 abbrev pub opened : {S : Type 0} → Outset S → Node S
 opened o =
     record {
       id = o.member;
       secret = o.secret;
+      period = o.period;
       replica = o.replica;
+      opening = o.replica.place;
       waiting = None;
       pool = [];
       arrivals = [];
+      decisions = [];
       stops = [];
       reports = [];
       syncs = [];
       marks = [];
+      offers = [];
+      fetch = None;
       entries = Opened (record { member = o.member; period = o.period; view = present o.replica.views }) ∷ [];
+      checkpoint = o.checkpoint;
+      taken = [];
       restored = 0;
       firm = 0;
       held = [];

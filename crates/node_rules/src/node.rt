@@ -1,8 +1,10 @@
 //! What a node tells and sends.
 use smart_base::name::{ClientId, MemberId};
 use smart_base::number::Place;
+use smart_base::sequence::{Bytes, Sequence};
 use smart_messages::message::Message;
 use smart_statements::batch::Batch;
+use transfer_form::transfer::StateAsk;
 use vote_book::entry::{Promise, Start};
 
 /// The first reason for which an arrival is dropped.
@@ -22,7 +24,7 @@ pub enum Why {
     NewView,
     /// The place is decided already.
     OldPlace,
-    /// The place is more than two past the last decided one.
+    /// The place is too far past the last decided one, or a member that asks for state is not behind.
     FarPlace,
     /// The regency is over; for a STOP, also in force.
     OldRegency,
@@ -36,11 +38,11 @@ pub enum Why {
     NotLeader,
     /// The batch may not stand at the place, or is not the one that the digest names.
     InvalidBatch,
-    /// The evidence or the lock of a report, or of one in a SYNC, does not hold.
+    /// The ACCEPTs of a DECISION prove nothing, or the evidence or the lock of a report does not hold.
     BadProof,
     /// The regency is bound to another batch at this place.
     Unbound,
-    /// No member waits for a reply.
+    /// No member waits for a reply, and no plan for a part.
     Unasked,
     /// Another one of this kind was kept from this signer; or the regency of a SYNC has begun.
     Repeated,
@@ -53,11 +55,24 @@ pub struct Asked {
     pub seq: u64,
 }
 
+/// What a kept message asks a node for.
+#[derive(Clone, Copy)]
+pub enum Called {
+    /// Nothing.
+    Nobody,
+    /// The answer to a request.
+    Request(Asked),
+    /// A member's ask for state.
+    State(StateAsk),
+    /// An offer came: maybe there is a plan now.
+    Offered,
+}
+
 /// What calls for the rules of a node.
-#[derive(Clone, Copy, Debug)]
+#[derive(Clone, Copy)]
 pub enum Cause {
-    /// Bytes came; a kept request names its client and number.
-    Came(Option<Asked>),
+    /// Bytes came, and ask for this.
+    Came(Called),
     /// Time passed.
     Ticked,
     /// The service is to execute the waiting batch.
@@ -92,11 +107,43 @@ pub struct Delivery {
     pub executed: u64,
 }
 
+/// A snapshot that a node took at its own turn, in its bytes. It is firm after the first `needs` entries
+/// of the node's book are.
+#[derive(Drop)]
+pub struct OwnSnapshot {
+    pub place: Place,
+    pub snapshot: Bytes,
+    pub needs: u64,
+}
+
+/// The tail of a log: the bytes of the entries that a store keeps beside a checkpoint. `made` is the
+/// number of the last of them among the entries that the node made in this life; 0 if that one was
+/// restored.
+#[derive(Drop)]
+pub struct BookTail {
+    pub made: u64,
+    pub entries: Sequence<Bytes>,
+}
+
+/// What restored devices give a node: the snapshot of its newest checkpoint, if there is one, and the
+/// entries of the log behind it.
+#[derive(Drop)]
+pub struct Parts {
+    pub snapshot: Option<Bytes>,
+    pub entries: Sequence<Bytes>,
+}
+
 /// The event that a rule reports in a step.
 #[derive(Drop)]
 pub enum Fired {
+    /// The replica of a plan was installed, of this place.
+    Installed(Place),
+    /// The parts of a plan made no replica that it certifies.
+    Spoiled,
     /// The waiting batch was delivered.
     Delivered(Delivery),
+    /// The node marked its replica behind that delivery. This is the snapshot.
+    Marked(Bytes),
     /// The node adopted the beginning of a regency.
     Adopted(Start),
     /// The node asked for the next regency, after more than f members did.
@@ -109,9 +156,10 @@ pub enum Fired {
     Wrote,
     Accepted,
     Decided(Place),
-    /// Time passed under pressure: the leader was given the oldest request, or the next regency was
-    /// asked for.
+    /// Time passed. A node that lags asked for state. Under pressure the leader was given the oldest
+    /// request, or the next regency was asked for.
     Timed,
-    /// A client that repeated its last request was sent its reply again.
+    /// A client that repeated its last request was sent its reply again, a member that asked for state
+    /// was given what there is, or an offer made a plan possible.
     Answered,
 }

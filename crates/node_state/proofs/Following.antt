@@ -1,5 +1,5 @@
 -- How a node's instance and its synchronizer follow the node.
-use Rattle.std.proofs.Common.{◌≡◌, ℕ, ◌+◌, ◌<◌, ◌^◌, ◌==◌, ◌++◌, ◌&&◌, filter, filter_map, max, nat_lt, Bool, true, false, List, [], ◌∷◌, refl, ap, sym, subst, ◌∙◌, cond, arith, Option, Some, None, is_some, is_none, option_map}
+use Rattle.std.proofs.Common.{◌≡◌, ℕ, ◌+◌, ◌<◌, ◌≤◌, ◌^◌, ◌==◌, ◌++◌, ◌&&◌, filter, filter_map, max, nat_lt, Bool, true, false, List, [], ◌∷◌, refl, ap, sym, subst, ◌∙◌, cond, arith, Option, Some, None, is_some, is_none, option_map}
 use Rattle.std.proofs.lemmas.Bool.{ltb-true, eq-eqb}
 use Rattle.smart_base.specs.Lists.{or_else}
 use Rattle.smart_base.specs.Views.{View}
@@ -7,6 +7,7 @@ use Rattle.smart_base.proofs.SameLists.{and_true}
 use Rattle.std.specs.Prelude.{Result, Ok, Err, OnOk, OnErr}
 use Rattle.smart_statements.specs.Forms.{SignedBy}
 use Rattle.smart_statements.specs.Batches.{Batch}
+use Rattle.smart_statements.specs.declared.report.Mark.{Mark}
 use Rattle.smart_messages.specs.declared.message.Message.{Message}
 use Rattle.smart_messages.specs.declared.regency.Stop.{Stop}
 use Rattle.smart_messages.specs.declared.regency.Sync.{Sync}
@@ -24,26 +25,31 @@ use Rattle.vote_book.specs.declared.entry.Accept.{Accept as Accepting}
 use Rattle.vote_book.specs.declared.entry.Promise.{Promise}
 use Rattle.vote_book.specs.declared.entry.Start.{Start as Beginning}
 use Rattle.vote_book.specs.declared.entry.Decision.{Decision}
+use Rattle.vote_book.specs.declared.entry.Installation.{Installation}
 use Rattle.vote_book.specs.declared.entry.LogEntry.{LogEntry}
-use Rattle.vote_book.specs.declared.entry.LogEntry.TheVariants.{Wrote, Accepted, Promised, Synced, Decided}
+use Rattle.vote_book.specs.declared.entry.LogEntry.TheVariants.{Wrote, Accepted, Promised, Synced, Decided, Installed, Marked}
+use Rattle.transfer_form.specs.declared.transfer.ProvenBatch.{ProvenBatch}
 use Rattle.regency_sync.specs.Synchronizers as synchronizers
 use Rattle.regency_sync.specs.Synchronizers.{Synchronizer, adopted, promised_to}
 use Rattle.node_rules.specs.Arrivals as arrivals
 use Rattle.node_rules.specs.Nodes as nodes
-use Rattle.node_rules.specs.Nodes.{Node, view_of, regency_of, synchronizer_of, is_synced}
+use Rattle.node_rules.specs.Nodes.{Node, view_of, regency_of, synchronizer_of, is_synced, greatest_regency, start_at}
 use Rattle.consensus_instance.specs.Instances as instances
-use Rattle.consensus_instance.specs.Instances.{Instance, decided_place, is_free, is_open, open_slot, is_bound_to, is_unbound, accepted_named, due_by, with_arrival, moved_on, promising, syncing}
+use Rattle.consensus_instance.specs.Instances.{Instance, decided_place, is_free, is_open, open_slot, is_bound_to, is_unbound, accepted_named, due_by, with_arrival, moved_on, taken_to, promising, syncing}
 use Rattle.node_rules.specs.Kept.{is_ahead, trimmed}
 use Rattle.node_rules.specs.Votes.{named_in, accepted_in, certificate_votes}
 use Rattle.consensus_instance.specs.declared.start.Start.{Start as Beginnings}
 use Rattle.consensus_instance.specs.declared.rule.Rule.{Rule}
 use Rattle.consensus_instance.specs.Nodes.{slot_behind, stated_start, IsInstance, HasInstance, due_at}
-use Rattle.consensus_instance.proofs.Entries.{wrote_instance, accepted_instance, decided_instance, delivered_instance, promised_instance, synced_instance, start_passed, same_regency, same_decided_place, same_free, same_synced, same_open, same_slot_open, same_bound, same_unbound, due_same}
+use Rattle.consensus_instance.proofs.Entries.{wrote_instance, accepted_instance, decided_instance, marked_instance, delivered_instance, installed_instance, promised_instance, synced_instance, start_passed, same_regency, same_decided_place, same_free, same_synced, same_open, same_slot_open, same_bound, same_unbound, due_same}
 use Rattle.node_state.specs.Following.{Follows, begun_at}
 
 -- an entry that makes no place
-made_passed : (entries : List LogEntry) (e : LogEntry) (place : ℕ) → place_made e ≡ None → last_made entries ≡ place → last_made (entries ++ e ∷ []) ≡ place
-made_passed entries e place none is = last_push entries e ∙ (ap (λ (o : Option ℕ). max (last_made entries) (number_or o 0)) none ∙ (omega arith ∙ is))
+same_last : (entries : List LogEntry) (e : LogEntry) → place_made e ≡ None → last_made (entries ++ e ∷ []) ≡ last_made entries
+same_last entries e none = last_push entries e ∙ (ap (λ (o : Option ℕ). max (last_made entries) (number_or o 0)) none ∙ omega arith)
+
+made_passed : (entries : List LogEntry) (e : LogEntry) (place : ℕ) → place_made e ≡ None → last_made entries ≤ place → last_made (entries ++ e ∷ []) ≤ place
+made_passed entries e place none is = subst (λ (n : ℕ). n ≤ place) (sym (same_last entries e none)) is
 
 -- an entry that begins no regency
 synced_passed : (view regency : ℕ) (entries : List LogEntry) (e : LogEntry) (synced : Bool) → start_by view regency e ≡ None → synced ≡ is_some (first_start view regency entries)
@@ -143,22 +149,39 @@ accepted_after id view place waiting b c i now s a is at grown moved =
       made = made_passed b.entries (Accepted a) _ refl is.made;
     })
 
-made_here : (waiting : Option Batch) (place last : ℕ) → is_none waiting ≡ true → last ≡ cond (is_some waiting) (place + 1) place → last ≡ place
+pub marked_after : (id : ℕ) (view : View) (place : ℕ) (waiting : Option Batch) (b c : Book) (i : Instance) (s : Synchronizer) (m : Mark) → Follows id view place waiting b.entries i s
+    → c ≡ pushed b (Marked m) → Follows id view place waiting c.entries i s
+marked_after id view place waiting b c i s m is grown =
+    rw grown (record {
+      room = is.room;
+      instance = marked_instance id view place waiting i.arrivals b.entries i m is.instance;
+      member = is.member;
+      viewed = is.viewed;
+      regency = is.regency;
+      synced = synced_passed view.number i.regency b.entries (Marked m) s.synced refl is.synced;
+      made = made_passed b.entries (Marked m) _ refl is.made;
+    })
+
+made_here : (waiting : Option Batch) (place last : ℕ) → is_none waiting ≡ true → last ≤ cond (is_some waiting) (place + 1) place → last ≤ place
 made_here None place last free is = is
 made_here (Some b) place last free is = absurd (cc)
 
 -- where no batch waits, the book makes no place past the last that was delivered
 pub none_made : (id : ℕ) (view : View) (place : ℕ) (waiting : Option Batch) (entries : List LogEntry) (i : Instance) (s : Synchronizer) → Follows id view place waiting entries i s → is_none waiting ≡ true
-    → last_made entries ≡ place
+    → last_made entries ≤ place
 none_made id view place waiting entries i s is free = made_here waiting place (last_made entries) free is.made
+
+most_of : (last at place : ℕ) → last ≤ place → at ≡ place + 1 → max last at ≤ place + 1
+most_of last at place most next = omega (arith, most, next)
 
 pub decided_after : (id : ℕ) (view : View) (place : ℕ) (waiting : Option Batch) (b c : Book) (i now : Instance) (s : Synchronizer) (d : Decision) (batch : Batch) → Follows id view place waiting b.entries i s
     → (is_none waiting && nat_lt (place + 1) (2 ^ 63)) ≡ true → d.slot.place ≡ place + 1 → c ≡ pushed b (Decided d) → now ≡ record i { decided = true }
     → Follows id view place (Some batch) c.entries now s
 decided_after id view place waiting b c i now s d batch is free at grown moved =
     let both = and_true (is_none waiting) (nat_lt (place + 1) (2 ^ 63)) free in
-    let last : last_made b.entries ≡ place = none_made id view place waiting b.entries i s is both.0 in
-    let most : max (last_made b.entries) d.slot.place ≡ place + 1 = omega (arith, last, at) in
+    let last : last_made b.entries ≤ place = none_made id view place waiting b.entries i s is both.0 in
+    let most : last_made (b.entries ++ Decided d ∷ []) ≤ place + 1 =
+    subst (λ (n : ℕ). n ≤ place + 1) (sym (last_push b.entries (Decided d))) (most_of (last_made b.entries) d.slot.place place last at) in
     rw (moved, grown) (record {
       room = λ some. ltb-true (place + 1) (2 ^ 63) both.1;
       instance = decided_instance id view place waiting i.arrivals b.entries i d batch is.instance;
@@ -166,10 +189,10 @@ decided_after id view place waiting b c i now s d batch is free at grown moved =
       viewed = is.viewed;
       regency = is.regency;
       synced = synced_passed view.number i.regency b.entries (Decided d) s.synced refl is.synced;
-      made = last_push b.entries (Decided d) ∙ most;
+      made = most;
     })
 
-made_next : (waiting : Option Batch) (place last : ℕ) (batch : Batch) → Some batch ≡ waiting → last ≡ cond (is_some waiting) (place + 1) place → last ≡ place + 1
+made_next : (waiting : Option Batch) (place last : ℕ) (batch : Batch) → Some batch ≡ waiting → last ≤ cond (is_some waiting) (place + 1) place → last ≤ place + 1
 made_next None place last batch some is = absurd (cc)
 made_next (Some b) place last batch some is = is
 
@@ -210,6 +233,50 @@ promised_after id view place waiting b c i now s then p start begun votes is at 
       synced = synced_passed view.number p.regency b.entries (Promised p) begun refl (has ∙ begun_by view.number p.regency b.entries start started);
       made = made_passed b.entries (Promised p) _ refl is.made;
     })
+
+installed_made : (last at place next : ℕ) → last ≤ place → place < next → at ≡ next → max last at ≤ next
+installed_made last at place next most past same = omega (arith, most, past, same)
+
+-- a replica of a later place is taken over, with what the book says of its view
+pub installed_after : (id : ℕ) (view later : View) (place next : ℕ) (waiting : Option Batch) (b c : Book) (i now : Instance) (s then : Synchronizer) (x : Installation) (regency : ℕ) (start first : Option Beginnings) (begun : Bool) (votes : OwnVotes)
+    → Follows id view place waiting b.entries i s → is_none waiting ≡ true → place < next → x.place ≡ next
+    → regency ≡ greatest_regency later.number b.entries → start ≡ option_map stated_start (start_at later regency b.entries) → first ≡ option_map stated_start (first_start later.number regency b.entries)
+    → begun ≡ is_some first → votes ≡ own_votes (slot_behind later.number next regency) b.entries
+    → c ≡ pushed b (Installed x) → now ≡ taken_to later next regency start votes i → then ≡ synchronizers.taken_to later regency begun s → Follows id later next None c.entries now then
+installed_after id view later place next waiting b c i now s then x regency start first begun votes is free past at greatest starts begins has voted grown moved turned =
+    rw (moved, grown, turned) (record {
+      room = λ some. absurd (cc);
+      instance = installed_instance id view later place next waiting i.arrivals b.entries i x regency start votes greatest starts voted is.instance;
+      member = is.member;
+      viewed = refl;
+      regency = refl;
+      synced = synced_passed later.number regency b.entries (Installed x) begun refl (has ∙ begun_by later.number regency b.entries first begins);
+      made = subst (λ (n : ℕ). n ≤ next) (sym (last_push b.entries (Installed x)))
+          (installed_made (last_made b.entries) x.place place next (none_made id view place waiting b.entries i s is free) past at);
+    })
+
+waits_none : {A : Type 0} (o : Option A) → is_none o ≡ true → None ≡ o
+waits_none None none = refl
+waits_none (Some x) none = absurd (cc)
+
+-- the same, as a book is asked
+pub installed_where : (id : ℕ) (view later own other : View) (place next number got : ℕ) (waiting : Option Batch) (b c : Book) (entries : List LogEntry) (i now : Instance) (s then : Synchronizer) (x : Installation)
+    (regency : ℕ) (start first : Option Beginnings) (begun : Bool) (votes : OwnVotes)
+    → Follows id view place waiting b.entries i s → is_none waiting ≡ true → place < next → x.place ≡ next
+    → own ≡ later → other ≡ later → number ≡ later.number → entries ≡ b.entries → regency ≡ greatest_regency number entries → start ≡ option_map stated_start (start_at later regency b.entries)
+    → first ≡ option_map stated_start (first_start number regency b.entries) → begun ≡ is_some first → got ≡ next → votes ≡ own_votes (record { view = number; place = got + 1; regency = regency }) b.entries
+    → c ≡ pushed b (Installed x) → now ≡ taken_to own next regency start votes i → then ≡ synchronizers.taken_to other regency begun s → Follows id later next waiting c.entries now then
+installed_where id view later own other place next number got waiting b c entries i now s then x regency start first begun votes is free past at owned lent numbered all greatest starts begins has behind voted grown moved turned =
+    subst (λ (w : Option Batch). Follows id later next w c.entries now then) (waits_none waiting free)
+    (installed_after id view later place next waiting b c i now s then x regency start first begun votes is free past at
+    (greatest ∙ (ap (λ n. greatest_regency n entries) numbered ∙ ap (λ (es : List LogEntry). greatest_regency later.number es) all))
+    starts
+    (begins ∙ ap (λ n. option_map stated_start (first_start n regency b.entries)) numbered)
+    has
+    (voted ∙ (ap (λ n. own_votes (record { view = n; place = got + 1; regency = regency }) b.entries) numbered ∙ ap (λ p. own_votes (slot_behind later.number p regency) b.entries) behind))
+    grown
+    (moved ∙ ap (λ (v : View). taken_to v next regency start votes i) owned)
+    (turned ∙ ap (λ (v : View). synchronizers.taken_to v regency begun s) lent))
 
 or_some : (o : Option Beginning) (s : Beginning) → true ≡ is_some (or_else o (Some s))
 or_some None s = refl
@@ -303,25 +370,25 @@ slot_is {S = S} n inside i slot same has at =
 
 -- what of the kept messages a node needs
 
-trimmed_inside : {S : Type 0} (n : Node S) (i now : Instance) (s then : Synchronizer) (number place regency : ℕ) (proposed : List Slot) → HasInstance n i → s.view ≡ view_of n → s.regency ≡ regency_of n
+trimmed_inside : {S : Type 0} (n : Node S) (i now : Instance) (s then : Synchronizer) (number place regency : ℕ) (decisions : List ProvenBatch) (proposed : List Slot) → HasInstance n i → s.view ≡ view_of n → s.regency ≡ regency_of n
     → s.stops ≡ n.stops → s.reports ≡ n.reports → s.syncs ≡ n.syncs → s.stop_made ≡ n.stop_made → s.sync_made ≡ n.sync_made
-    → number ≡ (view_of n).number → place ≡ nodes.decided_place n → regency ≡ regency_of n → proposed ≡ filter (is_ahead number place regency) n.proposed
-    → now ≡ instances.trimmed i.view.number i → then ≡ synchronizers.trimmed s.view s
-    → record n { arrivals = now.arrivals; stops = then.stops; reports = then.reports; syncs = then.syncs; proposed = proposed; stop_made = then.stop_made; sync_made = then.sync_made } ≡ trimmed n
+    → number ≡ (view_of n).number → place ≡ nodes.decided_place n → regency ≡ regency_of n → decisions ≡ filter (λ (d : ProvenBatch). nat_lt place d.place) n.decisions
+    → proposed ≡ filter (is_ahead number place regency) n.proposed → now ≡ instances.trimmed i.view.number i → then ≡ synchronizers.trimmed s.view s
+    → record n { arrivals = now.arrivals; decisions = decisions; stops = then.stops; reports = then.reports; syncs = then.syncs; proposed = proposed; stop_made = then.stop_made; sync_made = then.sync_made } ≡ trimmed n
 unfolding trimmed instances.trimmed synchronizers.trimmed
-trimmed_inside n i now s then number place regency proposed has viewed e0 e1 e2 e3 e4 e5 at where_ in_ slots moved turned =
-    rw (moved, turned, slots, at, has.view_same, viewed, where_, in_, e0, e1, e2, e3, e4, e5, has.arrivals_same, same_decided_place n i has, same_regency n i has) refl
+trimmed_inside n i now s then number place regency decisions proposed has viewed e0 e1 e2 e3 e4 e5 at where_ in_ later slots moved turned =
+    rw (moved, turned, later, slots, at, has.view_same, viewed, where_, in_, e0, e1, e2, e3, e4, e5, has.arrivals_same, same_decided_place n i has, same_regency n i has) refl
 
-pub trimmed_where : {S : Type 0} (n inside : Node S) (i now : Instance) (s then : Synchronizer) (number place regency : ℕ) (proposed : List Slot) → inside ≡ n
+pub trimmed_where : {S : Type 0} (n inside : Node S) (i now : Instance) (s then : Synchronizer) (number place regency : ℕ) (decisions : List ProvenBatch) (proposed : List Slot) → inside ≡ n
     → Follows inside.id (view_of inside) inside.replica.place inside.waiting inside.entries i s → i.arrivals ≡ inside.arrivals
     → s.stops ≡ inside.stops → s.reports ≡ inside.reports → s.syncs ≡ inside.syncs → s.stop_made ≡ inside.stop_made → s.sync_made ≡ inside.sync_made
-    → number ≡ (view_of n).number → place ≡ nodes.decided_place n → regency ≡ regency_of n → proposed ≡ filter (is_ahead number place regency) inside.proposed
-    → now ≡ instances.trimmed i.view.number i → then ≡ synchronizers.trimmed s.view s
-    → record inside { arrivals = now.arrivals; stops = then.stops; reports = then.reports; syncs = then.syncs; proposed = proposed; stop_made = then.stop_made; sync_made = then.sync_made } ≡ trimmed n
-trimmed_where {S = S} n inside i now s then number place regency proposed same is arrived e1 e2 e3 e4 e5 at where_ in_ slots moved turned =
+    → number ≡ (view_of n).number → place ≡ nodes.decided_place n → regency ≡ regency_of n → decisions ≡ filter (λ (d : ProvenBatch). nat_lt place d.place) inside.decisions
+    → proposed ≡ filter (is_ahead number place regency) inside.proposed → now ≡ instances.trimmed i.view.number i → then ≡ synchronizers.trimmed s.view s
+    → record inside { arrivals = now.arrivals; decisions = decisions; stops = then.stops; reports = then.reports; syncs = then.syncs; proposed = proposed; stop_made = then.stop_made; sync_made = then.sync_made } ≡ trimmed n
+trimmed_where {S = S} n inside i now s then number place regency decisions proposed same is arrived e1 e2 e3 e4 e5 at where_ in_ later slots moved turned =
     let has : HasInstance inside i = subst (λ ms. IsInstance inside.id (view_of inside) inside.replica.place inside.waiting ms inside.entries i) arrived is.instance in
-    trimmed_inside inside i now s then number place regency proposed has is.viewed (is.regency ∙ same_regency inside i has) e1 e2 e3 e4 e5
-    (at ∙ ap (λ (m : Node S). (view_of m).number) (sym same)) (where_ ∙ ap (λ (m : Node S). nodes.decided_place m) (sym same)) (in_ ∙ ap (λ (m : Node S). regency_of m) (sym same)) slots moved turned
+    trimmed_inside inside i now s then number place regency decisions proposed has is.viewed (is.regency ∙ same_regency inside i has) e1 e2 e3 e4 e5
+    (at ∙ ap (λ (m : Node S). (view_of m).number) (sym same)) (where_ ∙ ap (λ (m : Node S). nodes.decided_place m) (sym same)) (in_ ∙ ap (λ (m : Node S). regency_of m) (sym same)) later slots moved turned
     ∙ ap (λ (m : Node S). trimmed m) same
 
 -- the batches that were proposed for a slot's place, and that a quorum accepted there
@@ -354,12 +421,12 @@ adopted_here s then regency turned same =
 
 -- the node that takes part in its regency
 pub begun_where : {S : Type 0} (n inside : Node S) (i now : Instance) (s then : Synchronizer) (b c : Book) (start : Beginning) → inside ≡ n → start.regency ≡ s.regency
-    → i.arrivals ≡ inside.arrivals → s.stop_made ≡ inside.stop_made → s.sync_made ≡ inside.sync_made → s.stops ≡ inside.stops → s.reports ≡ inside.reports → s.syncs ≡ inside.syncs → b.entries ≡ inside.entries
+    → i.arrivals ≡ inside.arrivals → s.stop_made ≡ inside.stop_made → s.sync_made ≡ inside.sync_made → s.stops ≡ inside.stops → s.reports ≡ inside.reports → s.syncs ≡ inside.syncs → b.entries ≡ inside.entries → b.opening ≡ inside.opening
     → c ≡ pushed b (Synced start) → now ≡ syncing (stated_start start) i → then ≡ adopted start.regency s
-    → record inside { arrivals = now.arrivals; entries = c.entries; stops = then.stops; reports = then.reports; syncs = then.syncs; stop_made = then.stop_made; sync_made = then.sync_made; impatient = false } ≡ begun_at n start
-begun_where {S = S} n inside i now s then b c start same here e0 e1 e2 e3 e4 e5 e6 grown moved turned =
+    → record inside { arrivals = now.arrivals; opening = c.opening; entries = c.entries; stops = then.stops; reports = then.reports; syncs = then.syncs; stop_made = then.stop_made; sync_made = then.sync_made; impatient = false } ≡ begun_at n start
+begun_where {S = S} n inside i now s then b c start same here e0 e1 e2 e3 e4 e5 e6 e7 grown moved turned =
     let done = adopted_here s then start.regency turned here in
-    rw (done.0, done.1, grown, moved, turned, e0, e1, e2, e3, e4, e5, e6) (ap (λ (m : Node S). begun_at m start) same)
+    rw (done.0, done.1, grown, moved, turned, e0, e1, e2, e3, e4, e5, e6, e7) (ap (λ (m : Node S). begun_at m start) same)
 
 -- what is voted behind the place that is delivered
 pub votes_next : {S : Type 0} (n inside : Node S) (i : Instance) (votes : OwnVotes) (place next regency : ℕ) → inside ≡ n → HasInstance inside i → place ≡ n.replica.place → next ≡ place + 2 → regency ≡ regency_of n

@@ -3,3 +3,4 @@ pub mod Walks
 pub mod Broken
 pub mod Starts
 pub mod Stopped
+pub mod Newest

@@ -3,10 +3,11 @@ use Rattle.std.proofs.Common.{◌≡◌, ◌++◌, List, [], ◌∷◌, refl, ap
 use Rattle.smart_base.specs.Lists.{Each}
 use Rattle.smart_service.specs.Services.{Meaning}
 use Rattle.node_rules.specs.Nodes.{Node}
-use Rattle.node_rules.specs.Steps.{Row, row, deliver_row, turn_rows, vote_rows, end_rows, pass}
+use Rattle.node_rules.specs.Steps.{Row, row, install_row, deliver_row, turn_rows, vote_rows, end_rows, pass}
+use Rattle.node_rules.specs.Transfers.{installs}
 use Rattle.node_rules.specs.declared.node.Cause.{Cause}
 use Rattle.node_rules.specs.declared.node.Fired.{Fired}
-use Rattle.node_rules.proofs.Entries.{RowsAdd, deliver_adds, turns_add, votes_add, end_adds}
+use Rattle.node_rules.proofs.Entries.{RowsAdd, installs_adds, deliver_adds, turns_add, votes_add, end_adds}
 use Rattle.node_state.specs.Broken.{IsGrown, IsPartly}
 use Rattle.node_state.proofs.Broken.{front_same, front_then, front_of, partly_in}
 
@@ -21,8 +22,11 @@ rows_grow (most ∷ mosts) [] each = absurd each
 rows_grow (most ∷ mosts) (r ∷ rows) each = (λ n cause fired. front_of most n.entries (r n cause fired).0.entries (each.0 n cause fired), rows_grow mosts rows each.1)
 
 -- so does each rule
+pub install_grows : {S : Type 0} (m : Meaning S) → RowGrows (install_row m)
+install_grows m n cause fired = front_of 1 n.entries (installs m n).entries (installs_adds m n)
+
 pub deliver_grows : {S : Type 0} (m : Meaning S) → RowGrows (deliver_row m)
-deliver_grows m n cause fired = front_of 0 n.entries (deliver_row m n cause fired).0.entries (deliver_adds m n cause fired)
+deliver_grows m n cause fired = front_of 1 n.entries (deliver_row m n cause fired).0.entries (deliver_adds m n cause fired)
 
 pub turns_grow : (S : Type 0) → Each (RowGrows {S = S}) turn_rows
 turns_grow S = rows_grow (2 ∷ 0 ∷ 1 ∷ 0 ∷ []) turn_rows (turns_add S)

@@ -1,5 +1,5 @@
 -- What a node keeps beside its state, so that its rules need not walk its book.
-use Rattle.std.specs.Prelude.{ℕ, ◌≡◌, ◌+◌, ◌<◌, ◌^◌, ◌==◌, nat_lt, Bool, false, not, ◌&&◌, ◌||◌, List, if◌then◌else◌, Option, IsSome, is_some}
+use Rattle.std.specs.Prelude.{ℕ, ◌≡◌, ◌+◌, ◌<◌, ◌≤◌, ◌^◌, ◌==◌, nat_lt, Bool, false, not, ◌&&◌, ◌||◌, List, if◌then◌else◌, Option, IsSome, is_some}
 use Rattle.smart_base.specs.Views.{View}
 use Rattle.smart_statements.specs.Batches.{Batch}
 use Rattle.vote_book.specs.Standing.{first_start}
@@ -25,8 +25,8 @@ pub record Follows (id : ℕ) (view : View) (place : ℕ) (waiting : Option Batc
   -- both are of the regency in force, and the book tells whether it has begun
   pub regency : s.regency ≡ i.regency
   pub synced : s.synced ≡ is_some (first_start view.number i.regency entries)
-  -- the last place that the book makes is the last delivered or decided one
-  pub made : last_made entries ≡ (if is_some waiting then place + 1 else place)
+  -- The book makes no place past the last delivered or decided one. It may make an earlier one alone, if its life began with a checkpoint.
+  pub made : last_made entries ≤ (if is_some waiting then place + 1 else place)
 
 -- the batch and digest of an accept
 abbrev pub named : Accept → Named

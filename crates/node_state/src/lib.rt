@@ -3,4 +3,6 @@
 
 pub mod find;
 pub mod seal;
+pub mod shown;
+pub mod snapshots;
 pub mod state;

@@ -123,6 +123,19 @@ impl MemberKeys {
         self.ring.learn(who)
     }
 
+    /// Checks a request's tag, and keeps it if it is the signer's, so that it is not made again. Error:
+    /// want of memory.
+    pub fn check(&mut self, alloc: Global, request: &Signed<Request>) -> Result<(), AllocError>
+        ensures { self.new ≡ self.old }
+    {
+        self.ring.check(
+            alloc,
+            request.party(),
+            request.bytes(),
+            request.tag().as_slice(),
+        )
+    }
+
     /// The member whose keys these are.
     pub fn member(&self) -> MemberId
         ensures { result ≡ self.now.member }

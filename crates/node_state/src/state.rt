@@ -11,7 +11,7 @@ use crate::find::start_at;
 use crate::seal::MemberKeys;
 use consensus_instance::instance::Instance;
 use delivery::replica::KeptReplica;
-use node_rules::node::{Held, Target};
+use node_rules::node::{Held, OwnSnapshot, Target};
 use outbox::outbox::Outbox;
 use regency_sync::synchronizer::Synchronizer;
 use request_pool::pool::RequestPool;
@@ -26,8 +26,10 @@ use smart_statements::batch::Batch;
 use smart_statements::signed_list::SignedList;
 use smart_statements::statement::{Ballot, Slot, VoteKind};
 use state_marks::table::MarkTable;
+use state_transfer::fetch::Fetch;
 use std::alloc::{AllocError, Global};
 use std::marker::Model;
+use transfer_form::transfer::{ProvenBatch, StateOffer};
 use vote_book::book::Book;
 use vote_book::entry::Accept;
 use vote_book::votes::OwnVotes;
@@ -37,6 +39,8 @@ use vote_book::votes::OwnVotes;
 pub struct NodeState<S> {
     pub alloc: Global,
     pub keys: MemberKeys,
+    /// The number of places in which each member takes one checkpoint; 0 if none does.
+    pub period: u32,
     pub replica: KeptReplica<S>,
     pub waiting: Option<Batch>,
     pub pool: RequestPool,
@@ -44,9 +48,19 @@ pub struct NodeState<S> {
     pub instance: Instance,
     /// The STOPs, STOPDATA and SYNCs that were kept, and what the book says of them.
     pub synchronizer: Synchronizer,
+    /// Decided batches that others showed.
+    pub decisions: Sequence<ProvenBatch>,
     /// What members state of their replicas.
     pub marks: MarkTable,
+    /// What others offered since the node asked last.
+    pub offers: Sequence<StateOffer>,
+    /// The plan that stands, with the parts that came for it.
+    pub fetch: Option<Fetch>,
     pub book: Book,
+    /// The snapshot of the checkpoint with which this life began, if there was one.
+    pub checkpoint: Option<OwnSnapshot>,
+    /// The snapshots that the node took in this life, each at its own turn or from others.
+    pub taken: Sequence<OwnSnapshot>,
     /// The number of entries that were restored when this life began.
     pub restored: u64,
     pub firm: u64,
@@ -62,13 +76,19 @@ impl<S: Drop> Drop for NodeState<S> {
         let NodeState {
             alloc: _,
             keys: _,
+            period: _,
             replica: _,
             waiting: _,
             pool: _,
             instance: _,
             synchronizer: _,
+            decisions: _,
             marks: _,
+            offers: _,
+            fetch: _,
             book: _,
+            checkpoint: _,
+            taken: _,
             restored: _,
             firm: _,
             held: _,
@@ -89,15 +109,22 @@ impl<S> Model for NodeState<S> {
     ghost view = { λ c. record {
       id = c.keys.member;
       secret = c.keys.secret;
+      period = c.period;
       replica = c.replica.replica;
+      opening = c.book.opening;
       waiting = c.waiting;
       pool = c.pool;
       arrivals = c.instance.arrivals;
       stops = c.synchronizer.stops;
       reports = c.synchronizer.reports;
       syncs = c.synchronizer.syncs;
+      decisions = c.decisions;
       marks = c.marks;
+      offers = c.offers;
+      fetch = c.fetch;
       entries = c.book.entries;
+      checkpoint = c.checkpoint;
+      taken = c.taken;
       restored = c.restored;
       firm = c.firm;
       held = c.held;
@@ -239,6 +266,7 @@ impl<S: Service> NodeState<S> {
     pub fn hold(&mut self, to: Target, message: Message) -> Result<(), AllocError>
         ensures node { OnOk result (self.new ≡ holding self.old to message) }
         ensures err { OnErr result (self.new.entries ≡ self.old.entries) }
+        ensures snapshots { OnErr result (self.new.taken ≡ self.old.taken) }
     {
         let needs = self.made();
         self.held.hold(to, message, needs)

@@ -1,8 +1,9 @@
-//! Which of restored entries is damaged.
+//! Which of restored parts is damaged.
 use crate::kit::{batch, digest_of, ring, slot, view, vote};
 use app_count::Count;
+use node_core::node::NodeCore;
 use node_restart::fault::ReopenFault;
-use node_restart::restart::restarted;
+use node_rules::node::Parts;
 use smart_base::bytes::Digest32;
 use smart_base::name::MemberId;
 use smart_base::number::{Regency, ViewNo};
@@ -140,19 +141,40 @@ fn bytes(rt: &impl Abort, alloc: Global, letter: u8) -> Bytes {
     Bytes::from_vec(encode_entry(alloc, &entry).expect(rt, "there is memory"))
 }
 
-/// The number of the first entry of a row that is damaged.
-fn damaged(rt: &impl Abort, alloc: Global, letters: &str) -> Option<u64> {
-    let mut restored = Sequence::new(alloc);
+/// A replica at place 1: view 0 from place 1 on, of members 1 to 4, of which 1 may be faulty; no client's
+/// request; and a sum of 5.
+const SNAPSHOT: [u8; 47] =
+    *b"\0\0\0\0\0\0\0\x01\0\x01\0\0\0\0\0\0\0\0\0\0\0\x01\x01\0\x04\0\x01\0\x02\0\x03\0\x04\0\0\0\0\0\x08\0\0\0\0\0\0\0\x05";
+
+/// A checkpoint's bytes.
+fn checkpoint(rt: &impl Abort, alloc: Global, bytes: &[u8]) -> Option<Bytes> {
+    Some(Bytes::from_slice(alloc, bytes).expect(rt, "there is memory"))
+}
+
+/// The number of the first part that is damaged, of a checkpoint and a row of entries.
+fn damaged_behind(
+    rt: &impl Abort,
+    alloc: Global,
+    snapshot: Option<Bytes>,
+    letters: &str,
+) -> Option<u64> {
+    let mut entries = Sequence::new(alloc);
     for letter in letters.bytes() {
         let bytes = bytes(rt, alloc, letter);
-        restored.push(bytes).expect(rt, "there is memory");
+        entries.push(bytes).expect(rt, "there is memory");
     }
+    let parts = Parts { snapshot, entries };
     let (ring, view) = (ring(rt, alloc), view(rt, alloc));
-    match restarted::<Count>(alloc, &ring, view, restored.as_slice()).err() {
+    match NodeCore::<Count>::reopen(alloc, MemberId::new(1), view, 4, ring, &parts).err() {
         None => None,
         Some(ReopenFault::Damaged { entry }) => Some(entry),
         Some(ReopenFault::NoMemory) => panic!(rt; "there is memory"),
     }
+}
+
+/// The number of the first entry of a row that is damaged, without a checkpoint.
+fn damaged(rt: &impl Abort, alloc: Global, letters: &str) -> Option<u64> {
+    damaged_behind(rt, alloc, None, letters)
 }
 
 #[test]
@@ -182,5 +204,38 @@ fn entries_are_taken_back_up_to_the_first_damaged(rt: HostRuntime) {
         ("oc", Some(2)),
     ] {
         assert_eq!(rt; damaged(&rt, alloc, letters), want, "{letters}");
+    }
+}
+
+#[test]
+fn a_checkpoint_that_holds_no_replica_is_damaged_first(rt: HostRuntime) {
+    let alloc = rt.alloc();
+    for letters in ["", "o", "w"] {
+        let spoiled = checkpoint(&rt, alloc, &SNAPSHOT[..46]);
+        assert_eq!(rt;
+            damaged_behind(&rt, alloc, spoiled, letters),
+            Some(0),
+            "{letters}"
+        );
+    }
+}
+
+#[test]
+fn entries_are_taken_back_behind_a_checkpoint(rt: HostRuntime) {
+    let alloc = rt.alloc();
+    for (letters, want) in [
+        ("", None),
+        ("o", None),
+        // The place of the checkpoint may be decided in the log, once.
+        ("od", None),
+        ("odd", Some(3)),
+        ("w", Some(1)),
+    ] {
+        let whole = checkpoint(&rt, alloc, &SNAPSHOT);
+        assert_eq!(rt;
+            damaged_behind(&rt, alloc, whole, letters),
+            want,
+            "{letters}"
+        );
     }
 }

@@ -1,3 +1,4 @@
 pub mod Accepts
 pub mod Due
 pub mod Broken
+pub mod Shown

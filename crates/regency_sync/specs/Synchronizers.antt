@@ -246,6 +246,10 @@ led s = record s { sync_made = true }
 abbrev pub moved : View → Synchronizer → Synchronizer
 moved view s = record s { view = view; regency = 0; synced = false; stop_made = false; sync_made = false }
 
+-- a member after it took over a replica, in its view, with the regency in force there; what was kept, and what it did, stays
+abbrev pub taken_to : View → ℕ → Bool → Synchronizer → Synchronizer
+taken_to view regency synced s = record s { view = view; regency = regency; synced = synced }
+
 -- a member without what is of another view or an earlier regency
 unfoldable pub trimmed : View → Synchronizer → Synchronizer
 trimmed view s = record s {

@@ -6,7 +6,7 @@ ghost use Rattle.regency_sync.specs.Synchronizers.{Synchronizer, is_synced, repe
 ghost use Rattle.regency_sync.specs.Synchronizers.{has_next, stoppers, is_joining, is_promising, reporters, is_collecting, collect, collecting, resumed};
 ghost use Rattle.regency_sync.specs.Synchronizers.{due, bears, batch_of, begun};
 ghost use Rattle.regency_sync.specs.Synchronizers.{is_reached, keeps_stop, keeps_report, keeps_sync, keeping_stop, keeping_report, keeping_sync};
-ghost use Rattle.regency_sync.specs.Synchronizers.{adopted, stopped, promised, promised_to, led, moved, trimmed};
+ghost use Rattle.regency_sync.specs.Synchronizers.{adopted, stopped, promised, promised_to, led, moved, taken_to, trimmed};
 
 use crate::find::{
     carries, collect, count_reporters, count_stoppers, has_same_report, has_same_stop,
@@ -118,6 +118,16 @@ impl Synchronizer {
             reports: Vec::new(alloc),
             syncs: Vec::new(alloc),
         }
+    }
+
+    /// Goes on in the view of a replica that was taken over, in the regency in force there. What was
+    /// kept, and what the member did, stays.
+    pub fn taken_to(&mut self, view: View, regency: Regency, synced: bool)
+        ensures { self.new ≡ taken_to view regency synced self.old }
+    {
+        self.view = view;
+        self.regency = regency;
+        self.synced = synced;
     }
 
     /// The greatest regency that the member has promised in the view in force; 0 if it has promised

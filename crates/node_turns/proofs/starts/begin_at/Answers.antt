@@ -14,4 +14,4 @@ pub returns-clause-node : goal.returns-clause-node
 returns-clause-node g c =
     begun_where c.args.node.now _ c.node.inside.instance c.synced.new.self c.node.inside.synchronizer c.adopted.new.self c.node.inside.book c.push.new.self c.args.start c.node.view_is
     (sym (c.node.invariant.regency ∙ (regency_after c.args.node.now _ c.node.inside.instance c.node.view_is c.node.invariant.instance ∙ c.requires.regency)))
-    refl refl refl refl refl refl refl c.in_ok-push.ensures.ok c.synced.ensures c.adopted.ensures
+    refl refl refl refl refl refl refl refl c.in_ok-push.ensures.ok c.synced.ensures c.adopted.ensures
