@@ -1,6 +1,6 @@
 -- Arrivals, on what is needed.
-use Rattle.std.proofs.Common.{◌≡◌, ℕ, ◌+◌, ◌++◌, ◌≤◌, ◌<◌, Bool, true, false, not, ◌||◌, ◌==◌, nat_lt, nat_le, List, [], ◌∷◌, refl, ap, ◌∙◌, cond, arith, Option, Some, None}
-use Rattle.std.proofs.lemmas.Bool.{leb-false, le-leb, ltb-false, eq-eqb}
+use Rattle.std.proofs.Common.{◌≡◌, ℕ, ◌+◌, ◌++◌, ◌≤◌, ◌<◌, Bool, true, false, not, ◌||◌, ◌==◌, nat_lt, nat_le, List, [], ◌∷◌, refl, ap, ◌∙◌, cond, arith, Option, Some, None, is_some}
+use Rattle.std.proofs.lemmas.Bool.{leb-false, le-leb, ltb-false, lt-ltb, eq-eqb, eqb-true}
 use Rattle.std.specs.Prelude.{filter}
 use Rattle.std.specs.List.{list_any}
 use Rattle.smart_base.specs.Lists.{or_else}
@@ -25,13 +25,18 @@ use Rattle.regency_sync.specs.Synchronizers.{is_needed, needs_stop, needs_report
 use Rattle.regency_sync.proofs.Lists.{any_filter, filter_end}
 use Rattle.regency_sync.proofs.Needs.{stop_repeats, report_repeats, sync_repeats}
 use Rattle.replica_rules.specs.Replicas.{is_next}
-use Rattle.replica_rules.specs.Seals.{is_verified}
-use Rattle.node_rules.specs.Arrivals.{is_same_proposal, is_same_vote, signer_why, view_why, place_why, regency_why, wish_why, slot_why, why_ask, is_batch_for, is_unbound, why_propose, why_vote, why_unasked, why_stop, is_proven, why_report, is_collect, why_sync, why_mark, why_dropped, noted, kept}
+use Rattle.replica_rules.specs.Seals.{is_verified, digest_of}
+use Rattle.transfer_form.specs.declared.transfer.ProvenBatch.{ProvenBatch}
+use Rattle.transfer_form.specs.declared.transfer.StateAsk.{StateAsk}
+use Rattle.transfer_form.specs.declared.transfer.StateOffer.{StateOffer}
+use Rattle.transfer_form.specs.declared.transfer.StatePart.{StatePart}
+use Rattle.node_rules.specs.Arrivals.{is_same_proposal, is_same_vote, signer_why, view_why, place_why, regency_why, wish_why, slot_why, why_ask, is_batch_for, is_unbound, why_propose, why_vote, why_unasked, why_stop, is_proven, why_report, is_collect, why_sync, why_mark, is_proven_batch, why_decision, why_state_ask, why_offer, why_part, why_dropped, noted, kept}
 use Rattle.replica_rules.specs.Pools.{offered}
 use Rattle.node_rules.specs.Nodes.{Node, view_of, regency_of, start_of, is_begun, decided_place, synchronizer_of}
 use Rattle.node_rules.specs.declared.node.Why.{Why}
 use Rattle.node_rules.specs.declared.node.Why.TheVariants.{OldView, NewView, OldPlace, FarPlace, OldRegency, NewRegency, NotLeader, InvalidBatch, BadProof, Unbound, Repeated}
-use Rattle.node_rules.specs.Kept.{ahead_of, needed_by, trimmed}
+use Rattle.node_rules.specs.Marks.{firm_at}
+use Rattle.node_rules.specs.Kept.{ahead_of, needed_by, is_later, trimmed}
 use Rattle.kept_arrivals.proofs.Filters.{or_else_where}
 use Rattle.kept_arrivals.proofs.Needed.{ahead_from, same_vote_needed, same_proposal_needed}
 use Rattle.kept_arrivals.proofs.Rules.{synchronizer_same}
@@ -158,6 +163,34 @@ why_mark_same : {S : Type 0} (n : Node S) (m : SignedBy Mark) → why_mark (trim
 unfolding why_mark trimmed
 why_mark_same n m = refl
 
+decision_repeats : {S : Type 0} (n : Node S) (d : ProvenBatch) → nat_le d.place (decided_place n) ≡ false
+    → list_any (λ (o : ProvenBatch). o.place == d.place) (filter (is_later n) n.decisions) ≡ list_any (λ (o : ProvenBatch). o.place == d.place) n.decisions
+decision_repeats n d later =
+    any_filter (λ (o : ProvenBatch). o.place == d.place) (is_later n)
+    (λ o is. lt-ltb (decided_place n) o.place (omega (arith, eqb-true o.place d.place is, leb-false d.place (decided_place n) later))) n.decisions
+
+why_decision_same : {S : Type 0} (n : Node S) (d : ProvenBatch) → why_decision (trimmed n) d ≡ why_decision n d
+unfolding why_decision is_proven_batch trimmed regency_of
+why_decision_same n d =
+    where_false (nat_le d.place (decided_place n)) (Some OldPlace) _ _ (λ later.
+    ap (λ (again : Bool).
+    cond (nat_lt (decided_place n + 1) d.place || is_some n.waiting) (Some FarPlace)
+    (cond (not (is_batch_for n.secret d.place (digest_of d.batch) d.batch)) (Some InvalidBatch)
+    (cond (not (is_proven_batch n d)) (Some BadProof) (cond again (Some Repeated) None))))
+    (decision_repeats n d later))
+
+why_state_ask_same : {S : Type 0} (n : Node S) (a : StateAsk) → why_state_ask (trimmed n) a ≡ why_state_ask n a
+unfolding why_state_ask firm_at trimmed
+why_state_ask_same n a = refl
+
+why_offer_same : {S : Type 0} (n : Node S) (o : StateOffer) → why_offer (trimmed n) o ≡ why_offer n o
+unfolding why_offer trimmed
+why_offer_same n o = refl
+
+why_part_same : {S : Type 0} (n : Node S) (p : StatePart) → why_part (trimmed n) p ≡ why_part n p
+unfolding why_part trimmed
+why_part_same n p = refl
+
 pub why_same : {S : Type 0} (n : Node S) (message : Message) → why_dropped (trimmed n) message ≡ why_dropped n message
 unfolding why_unasked signer_why trimmed
 why_same n (Ask q) = why_ask_same n q
@@ -166,7 +199,11 @@ why_same n (Vote b) = why_vote_same n b
 why_same n (changes.Stop s) = why_stop_same n s
 why_same n (changes.StopData r) = why_report_same n r
 why_same n (changes.Sync s) = why_sync_same n s
+why_same n (changes.Decision d) = why_decision_same n d
 why_same n (changes.Mark m) = why_mark_same n m
+why_same n (changes.StateAsk a) = why_state_ask_same n a
+why_same n (changes.StateOffer o) = why_offer_same n o
+why_same n (changes.StatePart p) = why_part_same n p
 why_same n _ = refl
 
 -- ---- what an arrival tells
@@ -251,6 +288,23 @@ kept_mark : {S : Type 0} (n : Node S) (m : SignedBy Mark) → kept (trimmed n) (
 unfolding kept trimmed regency_of
 kept_mark n m = refl
 
+decision_needed : {S : Type 0} (n : Node S) (d : ProvenBatch) → why_decision n d ≡ None → is_later n d ≡ true
+unfolding why_decision
+decision_needed n d none =
+    lt-ltb (decided_place n) d.place (leb-false d.place (decided_place n) (no_reason (nat_le d.place (decided_place n)) OldPlace _ none).0)
+
+kept_decision : {S : Type 0} (n : Node S) (d : ProvenBatch) → is_later n d ≡ true → kept (trimmed n) (changes.Decision d) ≡ trimmed (kept n (changes.Decision d))
+unfolding kept trimmed regency_of
+kept_decision n d later = ap (λ (kept_ones : List ProvenBatch). record (trimmed n) { decisions = kept_ones }) (filter_end (is_later n) n.decisions d later)
+
+kept_offer : {S : Type 0} (n : Node S) (o : StateOffer) → kept (trimmed n) (changes.StateOffer o) ≡ trimmed (kept n (changes.StateOffer o))
+unfolding kept trimmed regency_of
+kept_offer n o = refl
+
+kept_part : {S : Type 0} (n : Node S) (p : StatePart) → kept (trimmed n) (changes.StatePart p) ≡ trimmed (kept n (changes.StatePart p))
+unfolding kept trimmed regency_of
+kept_part n p = refl
+
 pub kept_same : {S : Type 0} (n : Node S) (message : Message) → why_dropped n message ≡ None → kept (trimmed n) message ≡ trimmed (kept n message)
 unfolding kept trimmed
 kept_same n (Ask q) none = kept_ask n q
@@ -259,5 +313,8 @@ kept_same n (Vote b) none = kept_vote n b (vote_ahead n b none)
 kept_same n (changes.Stop s) none = kept_stop n s (stop_needed n s none)
 kept_same n (changes.StopData r) none = kept_report n r (report_needed n r none)
 kept_same n (changes.Sync s) none = kept_sync n s (sync_needed n s none)
+kept_same n (changes.Decision d) none = kept_decision n d (decision_needed n d none)
 kept_same n (changes.Mark m) none = kept_mark n m
+kept_same n (changes.StateOffer o) none = kept_offer n o
+kept_same n (changes.StatePart p) none = kept_part n p
 kept_same n _ none = refl

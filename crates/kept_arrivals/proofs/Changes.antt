@@ -10,7 +10,7 @@ use Rattle.regency_sync.specs.Synchronizers.{needs_sync, is_joining, is_promisin
 use Rattle.regency_sync.proofs.Lists.{find_filter}
 use Rattle.regency_sync.proofs.Needs.{join_same, promise_same as promise_due, collecting_same}
 use Rattle.node_rules.specs.Nodes.{Node, view_of, regency_of, start_of, is_begun, decided_place, synchronizer_of}
-use Rattle.node_rules.specs.Changes.{start_by_sync, promised_for, adopts_by, is_adoptable, adoption, adopts, asks_next, joining, joins, report_of, reported_by, next_promise, promising, promise_next, promises, leading, lead_with, leads, timing, passes_on, presses, times}
+use Rattle.node_rules.specs.Changes.{start_by_sync, promised_for, adopts_by, is_adoptable, adoption, adopts, asks_next, joining, joins, report_of, reported_by, next_promise, promising, promise_next, promises, leading, lead_with, leads, lags, asks_state, timing, passes_on, presses, times}
 use Rattle.node_rules.specs.Kept.{trimmed}
 use Rattle.kept_arrivals.proofs.Needed.{trimmed_behind, trimmed_twice, regency_grows}
 use Rattle.kept_arrivals.proofs.Rules.{exactly, synchronizer_same}
@@ -119,15 +119,28 @@ unfolding trimmed regency_of
 press_same n true = asks_same n
 press_same n false = passes_on_same (record n { impatient = true }) n.pool
 
+asks_state_same : {S : Type 0} (n : Node S) → asks_state (trimmed n) ≡ trimmed (asks_state n)
+unfolding asks_state trimmed regency_of
+asks_state_same n = refl
+
 presses_same : {S : Type 0} (n : Node S) → presses (trimmed n) ≡ trimmed (presses n)
 unfolding presses trimmed regency_of
 presses_same n = press_same n n.impatient
 
+lags_same : {S : Type 0} (n : Node S) → lags (trimmed n) ≡ lags n
+unfolding trimmed
+lags_same n = refl
+
 times_exact : {S : Type 0} (n : Node S) → times (trimmed n) ≡ trimmed (times n)
 unfolding times
-times_exact n =
+times_exact {S = S} n =
+    let pressed : Node S = cond (timing n) (presses n) n in
+    let presses_is : cond (timing (trimmed n)) (presses (trimmed n)) (trimmed n) ≡ trimmed pressed =
     ap (λ test. cond test (presses (trimmed n)) (trimmed n)) (timing_same n)
-    ∙ (ap (λ x. cond (timing n) x (trimmed n)) (presses_same n) ∙ trimmed-if (timing n) (presses n) n)
+    ∙ (ap (λ x. cond (timing n) x (trimmed n)) (presses_same n) ∙ trimmed-if (timing n) (presses n) n) in
+    ap (λ test. cond test (asks_state (trimmed n)) (cond (timing (trimmed n)) (presses (trimmed n)) (trimmed n))) (lags_same n)
+    ∙ (ap (λ x. cond (lags n) (asks_state (trimmed n)) x) presses_is
+    ∙ (ap (λ x. cond (lags n) x (trimmed pressed)) (asks_state_same n) ∙ trimmed-if (lags n) (asks_state n) pressed))
 
 pub times_same : {S : Type 0} (n : Node S) → trimmed (times (trimmed n)) ≡ trimmed (times n)
 times_same n = exactly times times_exact n

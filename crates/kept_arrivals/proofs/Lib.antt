@@ -3,4 +3,5 @@ pub mod Needed
 pub mod Rules
 pub mod Changes
 pub mod Arrivals
+pub mod Transfers
 pub mod Steps

@@ -18,6 +18,7 @@ use Rattle.smart_statements.specs.declared.statement.VoteKind.TheVariants as kin
 use Rattle.smart_messages.specs.declared.message.Message.{Message}
 use Rattle.smart_messages.specs.declared.message.Message.TheVariants.{Propose, Vote}
 use Rattle.vote_book.specs.declared.entry.LogEntry.{LogEntry}
+use Rattle.transfer_form.specs.declared.transfer.ProvenBatch.{ProvenBatch}
 use Rattle.node_rules.specs.Kept.{is_ahead, is_needed, ahead_of, trimmed}
 use Rattle.regency_sync.specs.Synchronizers.{needs_stop, needs_report, needs_sync}
 use Rattle.regency_sync.proofs.Lists.{any_filter, filter_filter, find_alike, filter_alike, filter_map_alike}
@@ -185,21 +186,23 @@ needed_later v c r d q places regencies _ is = is
 abbrev pub trim : {S : Type 0} → ℕ → ℕ → ℕ → Node S → Node S
 trim v c r n = record n {
   arrivals = filter (is_needed v c r) n.arrivals;
+  decisions = filter (λ (d : ProvenBatch). nat_lt c d.place) n.decisions;
   stops = filter (needs_stop v r) n.stops;
   reports = filter (needs_report v r) n.reports;
   syncs = filter (needs_sync v r) n.syncs;
   proposed = filter (is_ahead v c r) n.proposed;
 }
 
-same_lists : {S : Type 0} (n : Node S) {a b : List Message} {t u : List (SignedBy Stop)} {p q : List Reported} {y z : List (SignedBy Sync)} {s o : List Slot}
-    → a ≡ b → t ≡ u → p ≡ q → y ≡ z → s ≡ o
-    → record n { arrivals = a; stops = t; reports = p; syncs = y; proposed = s } ≡ record n { arrivals = b; stops = u; reports = q; syncs = z; proposed = o }
-same_lists n a t p y s = rw (a, t, p, y, s) refl
+same_lists : {S : Type 0} (n : Node S) {a b : List Message} {d e : List ProvenBatch} {t u : List (SignedBy Stop)} {p q : List Reported} {y z : List (SignedBy Sync)} {s o : List Slot}
+    → a ≡ b → d ≡ e → t ≡ u → p ≡ q → y ≡ z → s ≡ o
+    → record n { arrivals = a; decisions = d; stops = t; reports = p; syncs = y; proposed = s } ≡ record n { arrivals = b; decisions = e; stops = u; reports = q; syncs = z; proposed = o }
+same_lists n a d t p y s = rw (a, d, t, p, y, s) refl
 
 -- from later ones on, behind earlier ones
 pub trim_later : {S : Type 0} (v c r d q : ℕ) (n : Node S) → c ≤ d → r ≤ q → trim v d q (trim v c r n) ≡ trim v d q n
 trim_later v c r d q n places regencies =
     same_lists n (filter_filter (is_needed v d q) (is_needed v c r) (needed_later v c r d q places regencies) n.arrivals)
+    (filter_filter (λ (x : ProvenBatch). nat_lt d x.place) (λ (x : ProvenBatch). nat_lt c x.place) (λ x is. lt-ltb c x.place (omega (arith, places, ltb-true d x.place is))) n.decisions)
     (filter_filter (needs_stop v q) (needs_stop v r) (λ x is. needed_earlier v r q x.statement.view x.statement.regency regencies is) n.stops)
     (filter_filter (needs_report v q) (needs_report v r) (λ x is. needed_earlier v r q x.head.statement.view x.head.statement.regency regencies is) n.reports)
     (filter_filter (needs_sync v q) (needs_sync v r) (λ x is. needed_earlier v r q x.statement.view x.statement.regency regencies is) n.syncs)

@@ -1,6 +1,7 @@
 -- Each rule by which requests are ordered and answered, on what is needed.
-use Rattle.std.proofs.Common.{◌≡◌, ℕ, ◌+◌, ◌^◌, ◌≤◌, Bool, true, false, not, ◌&&◌, ◌==◌, nat_lt, List, [], ◌∷◌, refl, ap, sym, ◌∙◌, cond, arith, Option, Some, None, is_some}
-use Rattle.std.specs.Prelude.{filter}
+use Rattle.std.proofs.Common.{◌≡◌, ℕ, ◌+◌, ◌^◌, ◌≤◌, Bool, true, false, not, ◌&&◌, ◌==◌, nat_lt, List, [], ◌∷◌, ◌++◌, refl, ap, sym, ◌∙◌, cond, arith, Option, Some, None, is_some}
+use Rattle.std.proofs.lemmas.Bool.{eqb-true, lt-ltb}
+use Rattle.std.specs.Prelude.{filter, option_map}
 use Rattle.std.specs.List.{list_any}
 use Rattle.smart_base.specs.Lists.{or_else}
 use Rattle.smart_base.specs.Views.{View, leader, present}
@@ -17,23 +18,26 @@ use Rattle.smart_messages.specs.declared.message.Proposed.{Proposed}
 use Rattle.smart_service.specs.Services.{Meaning}
 use Rattle.smart_service.specs.declared.table.Execution.{Execution}
 use Rattle.vote_book.specs.declared.entry.Decision.{Decision}
-use Rattle.vote_book.specs.declared.entry.LogEntry.TheVariants.{Wrote, Accepted, Decided}
+use Rattle.vote_book.specs.declared.entry.LogEntry.TheVariants.{Wrote, Accepted, Decided, Marked}
 use Rattle.regency_sync.specs.Synchronizers.{batch_of, trimmed as sync_trimmed}
-use Rattle.regency_sync.proofs.Lists.{any_filter, filter_end}
+use Rattle.regency_sync.proofs.Lists.{any_filter, filter_end, find_filter}
 use Rattle.regency_sync.proofs.Needs.{batch_same}
 use Rattle.replica_rules.specs.Replicas.{delivered}
 use Rattle.replica_rules.specs.Seals.{signed, digest_of}
 use Rattle.replica_rules.specs.Pools.{settled}
-use Rattle.node_rules.specs.Rules.{reply_of, replying, lines_to_answer, deliver_batch, delivery, delivers, batch_under, proposing, propose_batch, proposes, ballot, votable, writing, write_batch, writes, written, accepting, slot_in, accept_batch, accepts, decision_in, decision_ahead, deciding, decide_batch, decides, answering, answer_line, answers_again}
+use Rattle.node_rules.specs.Rules.{reply_of, replying, lines_to_answer, deliver_batch, delivery, delivers, batch_under, proposing, propose_batch, proposes, ballot, votable, writing, write_batch, writes, written, accepting, slot_in, accept_batch, accepts, decision_in, decision_ahead, decision_shown, shown_next, deciding, decide_batch, decides, answering, answer_line, answers_again}
+use Rattle.node_rules.specs.Marks.{mark_of, mark_place, marking, marks_place, marked}
 use Rattle.node_rules.specs.Nodes.{Node, view_of, regency_of, start_of, next_place, decided_place, open_slot, is_free, is_open, bound_at, synchronizer_of, greatest_regency, holding, recording}
 use Rattle.node_rules.specs.Votes.{certificate_votes, proposed_for, accepted_under}
 use Rattle.node_rules.specs.declared.node.Target.TheVariants as targets
-use Rattle.node_rules.specs.Kept.{ahead_of, needed_by, trimmed}
+use Rattle.transfer_form.specs.declared.transfer.ProvenBatch.{ProvenBatch}
+use Rattle.node_rules.specs.Kept.{ahead_of, needed_by, is_later, trimmed}
 use Rattle.kept_arrivals.proofs.Filters.{where_true, and_where}
 use Rattle.kept_arrivals.proofs.Needed.{proposed_needed, proposal_kept, quorum_kept, certificate_kept, decision_kept, free_free, open_free, next_past, slot_ahead, open_ahead, trim, trimmed_behind, trimmed_twice, regency_grows}
 use Rattle.replica_rules.proofs.Places.{place_delivered, views_delivered}
 use Rattle.node_rules.proofs.Options.{guard_passed}
 use Rattle.node_rules.specs.declared.node.Asked.{Asked}
+use Rattle.node_rules.specs.declared.node.Fired.{Fired}
 
 -- a rule that goes on over what is needed as over all
 abbrev pub Keeps : {S : Type 0} → (Node S → Node S) → Type 0
@@ -177,9 +181,24 @@ decisions_same n free =
     ap (λ (found : Option Decision). or_else found (decision_ahead (trimmed n))) (decision_same n (regency_of n) free (omega arith))
     ∙ ap (λ (found : Option Decision). or_else (decision_in n (regency_of n)) found) (decision_ahead_same n free)
 
+-- a decision of the next place is past the decided one
+shown_same : {S : Type 0} (n : Node S) → n.waiting ≡ None → shown_next (trimmed n) ≡ shown_next n
+unfolding trimmed regency_of
+shown_same n free =
+    find_filter (λ (d : ProvenBatch). d.place == next_place n) (is_later n)
+    (λ d is. lt-ltb (decided_place n) d.place (omega (arith, eqb-true d.place (next_place n) is, next_past n free))) n.decisions
+
+all_decisions_same : {S : Type 0} (n : Node S) → n.waiting ≡ None
+    → or_else (option_map (decision_shown (trimmed n)) (shown_next (trimmed n))) (or_else (decision_in (trimmed n) (regency_of n)) (decision_ahead (trimmed n)))
+    ≡ or_else (option_map (decision_shown n) (shown_next n)) (or_else (decision_in n (regency_of n)) (decision_ahead n))
+unfolding trimmed regency_of
+all_decisions_same n free =
+    ap (λ (found : Option ProvenBatch). or_else (option_map (decision_shown n) found) (or_else (decision_in (trimmed n) (regency_of n)) (decision_ahead (trimmed n)))) (shown_same n free)
+    ∙ ap (λ (later : Option Decision). or_else (option_map (decision_shown n) (shown_next n)) later) (decisions_same n free)
+
 pub deciding_same : {S : Type 0} (n : Node S) → deciding (trimmed n) ≡ deciding n
 unfolding deciding trimmed regency_of
-deciding_same n = where_true (is_free n) _ _ None (λ free. decisions_same n (free_free n free))
+deciding_same n = where_true (is_free n) _ _ None (λ free. all_decisions_same n (free_free n free))
 
 pub decides_free : {S : Type 0} (n : Node S) → is_some (deciding n) ≡ true → n.waiting ≡ None
 unfolding deciding
@@ -198,21 +217,20 @@ decides_same n = ap (λ found. trimmed (decide_batch (trimmed n) found)) (decidi
 
 -- ANSWER
 
-pub answering_same : {S : Type 0} (n : Node S) (asked : Option Asked) → answering (trimmed n) asked ≡ answering n asked
+pub answering_same : {S : Type 0} (n : Node S) (asked : Asked) → answering (trimmed n) asked ≡ answering n asked
 unfolding answering trimmed
-answering_same n None = refl
-answering_same n (Some asked) = refl
+answering_same n asked = refl
 
 answer_same : {S : Type 0} (n : Node S) (line : Option Execution) → answer_line (trimmed n) line ≡ trimmed (answer_line n line)
 unfolding answer_line trimmed regency_of
 answer_same n None = refl
 answer_same n (Some line) = refl
 
-answers_exact : {S : Type 0} (asked : Option Asked) (n : Node S) → answers_again (trimmed n) asked ≡ trimmed (answers_again n asked)
+answers_exact : {S : Type 0} (asked : Asked) (n : Node S) → answers_again (trimmed n) asked ≡ trimmed (answers_again n asked)
 unfolding answers_again
 answers_exact asked n = ap (λ line. answer_line (trimmed n) line) (answering_same n asked) ∙ answer_same n (answering n asked)
 
-pub answers_same : {S : Type 0} (n : Node S) (asked : Option Asked) → trimmed (answers_again (trimmed n) asked) ≡ trimmed (answers_again n asked)
+pub answers_same : {S : Type 0} (n : Node S) (asked : Asked) → trimmed (answers_again (trimmed n) asked) ≡ trimmed (answers_again n asked)
 answers_same n asked = exactly (λ x. answers_again x asked) (answers_exact asked) n
 
 -- DELIVER
@@ -260,3 +278,46 @@ delivery_same-of m n (Some batch) = refl
 
 pub delivery_same : {S : Type 0} (m : Meaning S) (n : Node S) → delivery m (trimmed n) (trimmed n).waiting ≡ delivery m n n.waiting
 delivery_same m n = ap (λ b. delivery m (trimmed n) b) (waiting_same n) ∙ delivery_same-of m n n.waiting
+
+-- MARK
+
+mark_same : {S : Type 0} (m : Meaning S) (n : Node S) → trimmed (mark_place m (trimmed n)) ≡ trimmed (mark_place m n)
+unfolding mark_place trimmed regency_of
+mark_same m n =
+    trimmed_behind (decided_place n) (regency_of n) (mark_place m n) (omega arith)
+    (regency_grows (view_of n).number n.entries (Marked (mark_of m n) ∷ []))
+
+marking_same : {S : Type 0} (delivered : Bool) (n : Node S) → marking delivered (trimmed n) ≡ marking delivered n
+unfolding trimmed
+marking_same delivered n = refl
+
+marks_by : {S : Type 0} (m : Meaning S) (n : Node S) (t : Bool) → trimmed (cond t (mark_place m (trimmed n)) (trimmed n)) ≡ trimmed (cond t (mark_place m n) n)
+marks_by m n true = mark_same m n
+marks_by m n false = trimmed_twice n
+
+marks_same : {S : Type 0} (m : Meaning S) (delivered : Bool) (n : Node S) → trimmed (marks_place m delivered (trimmed n)) ≡ trimmed (marks_place m delivered n)
+marks_same m delivered n =
+    ap (λ t. trimmed (cond t (mark_place m (trimmed n)) (trimmed n))) (marking_same delivered n) ∙ marks_by m n (marking delivered n)
+
+marked_same : {S : Type 0} (m : Meaning S) (delivered : Bool) (n : Node S) → marked m delivered (trimmed n) ≡ marked m delivered n
+unfolding trimmed
+marked_same m delivered n = refl
+
+-- what delivers and marks, as one rule
+abbrev pub delivers_marked : {S : Type 0} → Meaning S → Node S → Node S
+delivers_marked m n = marks_place m (is_some n.waiting) (delivers m n)
+
+abbrev pub delivery_marked : {S : Type 0} → Meaning S → Node S → List Fired
+delivery_marked m n = delivery m n n.waiting ++ marked m (is_some n.waiting) (delivers m n)
+
+pub delivers_marked_same : {S : Type 0} (m : Meaning S) → Keeps (delivers_marked m)
+delivers_marked_same m n =
+    ap (λ (b : Option Batch). trimmed (marks_place m (is_some b) (delivers m (trimmed n)))) (waiting_same n)
+    ∙ (ap (λ x. trimmed (marks_place m (is_some n.waiting) x)) (delivers_exact m n) ∙ marks_same m (is_some n.waiting) (delivers m n))
+
+pub delivery_marked_same : {S : Type 0} (m : Meaning S) (n : Node S) → delivery_marked m (trimmed n) ≡ delivery_marked m n
+delivery_marked_same {S = S} m n =
+    let told : marked m (is_some (trimmed n).waiting) (delivers m (trimmed n)) ≡ marked m (is_some n.waiting) (delivers m n) =
+    ap (λ (b : Option Batch). marked m (is_some b) (delivers m (trimmed n))) (waiting_same n)
+    ∙ (ap (λ (x : Node S). marked m (is_some n.waiting) x) (delivers_exact m n) ∙ marked_same m (is_some n.waiting) (delivers m n)) in
+    ap (λ (xs : List Fired). xs ++ marked m (is_some (trimmed n).waiting) (delivers m (trimmed n))) (delivery_same m n) ∙ ap (λ (xs : List Fired). delivery m n n.waiting ++ xs) told

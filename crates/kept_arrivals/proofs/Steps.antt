@@ -1,7 +1,6 @@
 -- A step on what is needed, and a core's steps.
-use Rattle.std.proofs.Common.{◌≡◌, ℕ, ◌++◌, Bool, List, [], ◌∷◌, refl, ap, sym, ◌∙◌, Option, Some, None, Result, Ok, Err}
+use Rattle.std.proofs.Common.{◌≡◌, ℕ, ◌++◌, List, [], ◌∷◌, refl, ap, sym, ◌∙◌, Option, Some, None, Result, Ok, Err, append_assoc}
 use Rattle.smart_base.specs.Lists.{Each}
-use Rattle.smart_base.specs.Views.{View}
 use Rattle.smart_messages.specs.Messages.{decoded}
 use Rattle.smart_messages.specs.declared.message.Message.{Message}
 use Rattle.smart_statements.specs.declared.entry.NodeEvent.{NodeEvent}
@@ -9,8 +8,8 @@ use Rattle.smart_statements.specs.declared.entry.NodeEvent.TheVariants.{Arrive, 
 use Rattle.smart_service.specs.Services.{Meaning}
 use Rattle.node_rules.specs.Nodes.{Node, regency_of, next_place}
 use Rattle.node_rules.specs.Arrivals.{why_dropped, noted, kept}
-use Rattle.node_rules.specs.Rules.{fired_if, delivers, delivery, proposing, proposes, writing, writes, accepting, accepts, deciding, decides, answering, answers_again}
-use Rattle.node_rules.specs.Changes.{fired_when, fired_adopt, adoption, adopts, joining, joins, next_promise, promising, promises, leading, leads, timing, times}
+use Rattle.node_rules.specs.Rules.{fired_if, proposes, writes, accepts, deciding, decides}
+use Rattle.node_rules.specs.Changes.{fired_when, fired_adopt, adopts, joins, next_promise, promising, promises, leads, timing, times}
 use Rattle.node_rules.specs.Steps.{made_firm, Outcome, Taken, judged, reads, takes_in, Row, row, deliver_row, time_row, answer_row, rules, pass, passed, step_of, Outset, opened}
 use Rattle.node_rules.specs.declared.node.Cause.{Cause}
 use Rattle.node_rules.specs.declared.node.Cause.TheVariants.{Came, Ticked, Delivering, Firmed}
@@ -19,9 +18,11 @@ use Rattle.node_rules.specs.declared.node.Fired.{Fired}
 use Rattle.node_rules.specs.declared.node.Fired.TheVariants as fires
 use Rattle.node_rules.specs.Kept.{trimmed, Stands, core_step, StepStands, core_after, node_after}
 use Rattle.kept_arrivals.proofs.Needed.{trimmed_twice}
-use Rattle.kept_arrivals.proofs.Rules.{Keeps, proposing_same, proposes_same, writing_same, writes_same, accepting_same, accepts_same, deciding_same, decides_same, delivers_same, delivery_same, answering_same, answers_same}
+use Rattle.kept_arrivals.proofs.Rules.{Keeps, proposing_same, proposes_same, writing_same, writes_same, accepting_same, accepts_same, deciding_same, decides_same, delivers_marked, delivery_marked, delivers_marked_same, delivery_marked_same}
 use Rattle.kept_arrivals.proofs.Changes.{adoption_same, adopts_same, joining_same, joins_same, next_promise_same, promising_same, promises_same, leading_same, leads_same, timing_same, times_same}
 use Rattle.kept_arrivals.proofs.Arrivals.{why_same, noted_same, kept_same}
+use Rattle.kept_arrivals.proofs.Transfers.{calls_same, called_same, installs_same, install_told_same}
+use Rattle.node_rules.specs.Transfers.{installing, install_told, installs, answers_call, answered_call}
 use Rattle.node_rules.proofs.Rulewise.{for_rules, why_noted}
 
 -- Two nodes need the same. A rule of a pass may raise the regency and a decision the place, so what goes on behind it is what two nodes that
@@ -52,22 +53,22 @@ rule_agrees rule tells same tells_same few all cause f g agree fired = (goes_on 
 
 deliver_agrees : {S : Type 0} (m : Meaning S) → RowAgrees (deliver_row m)
 deliver_agrees m few all Delivering f g agree fired =
-    rule_agrees (λ x. delivers m x) (λ x. delivery m x x.waiting) (λ n. delivers_same m n) (λ n. delivery_same m n) few all Delivering f g agree fired
-deliver_agrees m few all (Came asked) f g agree fired = (agree, fired)
+    let one = rule_agrees (λ x. delivers_marked m x) (λ x. delivery_marked m x) (λ n. delivers_marked_same m n) (λ n. delivery_marked_same m n) few all Delivering f g agree fired in
+    (one.0, append_assoc f _ _ ∙ (one.1 ∙ sym (append_assoc g _ _)))
+deliver_agrees m few all (Came called) f g agree fired = (agree, fired)
 deliver_agrees m few all Ticked f g agree fired = (agree, fired)
 deliver_agrees m few all Firmed f g agree fired = (agree, fired)
 
 time_agrees : (S : Type 0) → RowAgrees {S = S} time_row
 time_agrees S few all Ticked f g agree fired =
     rule_agrees times (λ x. fired_when fires.Timed (timing x)) times_same (λ n. ap (λ due. fired_when fires.Timed due) (timing_same n)) few all Ticked f g agree fired
-time_agrees S few all (Came asked) f g agree fired = (agree, fired)
+time_agrees S few all (Came called) f g agree fired = (agree, fired)
 time_agrees S few all Delivering f g agree fired = (agree, fired)
 time_agrees S few all Firmed f g agree fired = (agree, fired)
 
 answer_agrees : (S : Type 0) → RowAgrees {S = S} answer_row
-answer_agrees S few all (Came asked) f g agree fired =
-    rule_agrees (λ x. answers_again x asked) (λ x. fired_if fires.Answered (answering x asked)) (λ n. answers_same n asked)
-    (λ n. ap (λ line. fired_if fires.Answered line) (answering_same n asked)) few all (Came asked) f g agree fired
+answer_agrees S few all (Came called) f g agree fired =
+    rule_agrees (λ x. answers_call x called) (λ x. answered_call x called) (calls_same called) (called_same called) few all (Came called) f g agree fired
 answer_agrees S few all Ticked f g agree fired = (agree, fired)
 answer_agrees S few all Delivering f g agree fired = (agree, fired)
 answer_agrees S few all Firmed f g agree fired = (agree, fired)
@@ -85,7 +86,7 @@ decide_told n = rw (next_same n, deciding_same n) refl
 -- each rule, once
 rules_agree : {S : Type 0} (m : Meaning S) → Each RowAgrees (rules m)
 rules_agree {S} m =
-    for_rules m RowAgrees (deliver_agrees m)
+    for_rules m RowAgrees (rule_agrees (installs m) (λ n. install_told m n (installing n)) (installs_same m) (install_told_same m)) (deliver_agrees m)
     (record {
       adopt = rule_agrees adopts _ adopts_same (λ n. ap (λ sync. fired_adopt sync) (adoption_same n));
       join = rule_agrees joins _ joins_same (λ n. ap (λ due. fired_when fires.Joined due) (joining_same n));

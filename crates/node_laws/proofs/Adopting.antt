@@ -176,7 +176,7 @@ adopts_with {S = S} stated view n (Some s) is at =
     let r : ℕ = s.statement.regency in
     let es : List LogEntry = (n.entries ++ promised_for n s.statement) ++ Synced (start_by_sync s.statement) ∷ [] in
     let begun : IsSound stated view (with_entries n es) = entries_by stated view n s (nat_lt (regency_of n) r) refl is a (sync_chosen stated view n s is kept a.view_is) in
-    aside stated view (with_entries n es) n.firm n.held n.proposed (n.stop_made && (r == regency_of n)) (n.sync_made && (r == regency_of n)) false n.behind begun begun.held
+    aside stated view (with_entries n es) n.firm n.held n.proposed (n.stop_made && (r == regency_of n)) (n.sync_made && (r == regency_of n)) false n.behind begun begun.held begun.late
 
 pub sound_adopts : {S : Type 0} (stated : List Statement) (view : View) (n : Node S) → IsSound stated view n → IsSound stated view (adopts n)
 unfolding adopts

@@ -1,20 +1,37 @@
 -- A node that keeps what comes stays sound.
-use Rattle.std.proofs.Common.{Bool, List, None, Some, cond, nat_lt, not, subst, true, ℕ, ◌≡◌, [], ◌∷◌, ◌==◌, ◌++◌, ◌||◌, ◌+◌}
+use Rattle.std.proofs.Common.{Bool, List, None, Option, Some, cond, filter, is_some, nat_le, nat_lt, not, subst, sym, true, ℕ, ⊎_elim, ◌≡◌, [], ◌∷◌, ◌==◌, ◌++◌, ◌||◌, ◌+◌}
+use Rattle.std.specs.List.{flat_map}
+use Rattle.std.specs.Prelude.{map, option_map}
 use Rattle.std.proofs.lemmas.Bool.{eqb-true}
 use Rattle.replica_rules.specs.Pools.{offered}
 use Rattle.replica_rules.specs.Replicas.{is_next}
-use Rattle.replica_rules.specs.Seals.{is_verified}
+use Rattle.replica_rules.specs.Seals.{digest_of, is_verified}
 use Rattle.agreement_laws.specs.Statements.{Statement}
-use Rattle.node_rules.specs.Arrivals.{is_batch_for, is_collect, is_proven, kept, noted, regency_why, signer_why, slot_why, tells_behind, view_why, why_ask, why_dropped, why_propose, why_report, why_stop, why_sync, why_vote}
+use Rattle.node_rules.specs.Arrivals.{is_batch_for, is_collect, is_proven, kept, noted, regency_why, signer_why, slot_why, tells_behind, view_why, why_ask, why_dropped, why_propose, why_report, why_stop, why_sync, why_vote, why_mark, why_decision, is_proven_batch, slot_shown}
 use Rattle.node_rules.specs.Nodes.{Node, decided_place, regency_of, view_of}
-use Rattle.node_rules.specs.declared.node.Why.TheVariants.{BadProof, BadTag, InvalidBatch, NotLeader, NotMember, OldRegency, Stranger}
+use Rattle.node_rules.specs.declared.node.Why.TheVariants.{BadProof, BadTag, FarPlace, InvalidBatch, NotLeader, NotMember, OldPlace, OldRegency, Stranger}
 use Rattle.regency_sync.specs.Choices.{choice}
 use Rattle.smart_base.specs.Lists.{Each}
 use Rattle.smart_base.specs.Views.{View, is_member, leader}
 use Rattle.smart_statements.specs.Forms.{SignedBy}
 use Rattle.smart_statements.specs.Kinds.{ballots, proposals, requests}
 use Rattle.smart_messages.specs.Regencies.{stops, syncs}
-use Rattle.smart_statements.specs.Reports.{reports}
+use Rattle.smart_statements.specs.Reports.{reports, marks}
+use Rattle.smart_statements.specs.declared.report.Mark.{Mark}
+use Rattle.smart_base.specs.declared.limits.TheConstants.{MARKS}
+use Rattle.certificates.proofs.Equal.{votes-exact}
+use Rattle.certificates.specs.Certificates.{IsDecisionProof, accept_of, votes_fault}
+use Rattle.transfer_form.specs.declared.transfer.ProvenBatch.{ProvenBatch}
+use Rattle.transfer_form.specs.declared.transfer.StateOffer.{StateOffer}
+use Rattle.transfer_form.specs.declared.transfer.StatePart.{StatePart}
+use Rattle.state_transfer.specs.Plans.{verified_offer}
+use Rattle.state_transfer.specs.Fetches.{kept_unless}
+use Rattle.state_transfer.specs.declared.fetch.Fetch.{Fetch}
+use Rattle.vote_book.specs.Books.{Among}
+use Rattle.agreement_laws.specs.Statements as says
+use Rattle.regency_sync.proofs.Lists.{each_filter}
+use Rattle.node_laws.proofs.Lists.{each_passes}
+use Rattle.node_laws.proofs.Stated.{Covers, covered, covers}
 use Rattle.smart_messages.specs.declared.message.Message.{Message}
 use Rattle.smart_messages.specs.declared.message.Message.TheVariants.{Ask, Propose, Vote}
 use Rattle.smart_messages.specs.declared.message.Proposed.{Proposed}
@@ -24,13 +41,13 @@ use Rattle.smart_messages.specs.declared.regency.Sync.{Sync}
 use Rattle.smart_statements.specs.declared.statement.Ballot.{Ballot}
 use Rattle.smart_statements.specs.declared.statement.Request.{Request}
 use Rattle.smart_statements.specs.declared.statement.Slot.{Slot}
-use Rattle.node_laws.proofs.Nodes.{Arrived, ReportKept, StopKept, SyncKept, aside, keeps, with_marks}
+use Rattle.node_laws.proofs.Nodes.{Arrived, DecisionKept, MarkKept, OfferKept, PlanKept, ReportKept, StopKept, SyncKept, aside, keeps, transfers}
 use Rattle.state_marks.specs.Tables as tables_of_marks
 use Rattle.node_laws.proofs.Votes.{in_force}
-use Rattle.node_laws.specs.Sound.{IsMembers, IsProposal, IsSound, IsStated}
+use Rattle.node_laws.specs.Sound.{IsMembers, IsProposal, IsShownIn, IsSound, IsStated}
 use Rattle.smart_messages.specs.declared.message.Message.TheVariants as changes
-use Rattle.agreement_laws.proofs.Lists.{not_false, each_end, either}
-use Rattle.node_rules.proofs.Options.{else_none, no_reason}
+use Rattle.agreement_laws.proofs.Lists.{among_either, among_filtered, among_flat, among_left, among_map, each_end, either, given, not_false, within_one}
+use Rattle.node_rules.proofs.Options.{else_none, no_reason, none_is}
 
 -- ---- reasons that are none
 
@@ -127,6 +144,70 @@ sync_kept stated view n s is none =
       not_false (is_collect n s.statement) fifth.0,
     )
 
+-- ---- what members exchange to take over a replica
+
+pub proven_is : {S : Type 0} (n : Node S) (d : ProvenBatch) → is_proven_batch n d ≡ true → IsDecisionProof n.secret (view_of n) (slot_shown n d) (digest_of d.batch) d.accepts
+unfolding is_proven_batch
+proven_is n d is =
+    (votes-exact n.secret (view_of n) (accept_of (slot_shown n d) (digest_of d.batch)) d.accepts).0
+    (none_is (votes_fault n.secret (view_of n) (accept_of (slot_shown n d) (digest_of d.batch)) d.accepts) is)
+
+decision_kept : {S : Type 0} (stated : List Statement) (view : View) (n : Node S) (d : ProvenBatch) → IsSound stated view n → why_decision n d ≡ None → IsShownIn n.secret view d
+unfolding why_decision
+decision_kept stated view n d is none =
+    let batch : Bool = is_batch_for n.secret d.place (digest_of d.batch) d.batch in
+    let first = no_reason (nat_le d.place (decided_place n)) OldPlace _ none in
+    let second = no_reason (nat_lt (decided_place n + 1) d.place || is_some n.waiting) FarPlace _ first.1 in
+    let third = no_reason (not batch) InvalidBatch _ second.1 in
+    let fourth = no_reason (not (is_proven_batch n d)) BadProof _ third.1 in
+    subst (λ (v : View). IsShownIn n.secret v d) (in_force stated view n is) (record {
+      accepts = proven_is n d (not_false (is_proven_batch n d) fourth.0);
+      batch = not_false batch third.0;
+    })
+
+mark_kept : {S : Type 0} (stated : List Statement) (view : View) (n : Node S) (m : SignedBy Mark) → IsSound stated view n → why_mark n m ≡ None → IsMembers view (is_verified marks n.secret m) m.signer
+unfolding why_mark
+mark_kept stated view n m is none =
+    let tag = no_reason (not (is_verified marks n.secret m)) BadTag _ none in
+    let name = no_reason (not (is_member (view_of n) m.signer)) Stranger _ tag.1 in
+    record {
+      tagged = not_false (is_verified marks n.secret m) tag.0;
+      member = subst (λ (v : View). is_member v m.signer ≡ true) (in_force stated view n is) (not_false (is_member (view_of n) m.signer) name.0);
+    }
+
+each_noted : (P : SignedBy Mark → Type 0) (m : SignedBy Mark) (table : List (SignedBy Mark)) → Each P table → P m → Each P (tables_of_marks.noted m table)
+unfolding tables_of_marks.noted
+each_noted P m table each is =
+    let more : Each P (table ++ m ∷ []) = each_end P table m each is in
+    either (λ (ms : List (SignedBy Mark)). Each P ms) (tables_of_marks.repeats table m) table _ each
+    (either (λ (ms : List (SignedBy Mark)). Each P ms) (nat_le MARKS (tables_of_marks.count_of m.signer table)) _ (table ++ m ∷ [])
+    (each_filter P (λ k. not (tables_of_marks.is_at m.signer (tables_of_marks.least_of m.signer m.statement.place table) k)) (table ++ m ∷ []) more) more)
+
+-- what an offer has stated without some of its marks, it has stated
+offer_fewer : (secret : List ℕ) (stated : List Statement) (member place size : ℕ) (p : SignedBy Mark → Bool) (ms : List (SignedBy Mark))
+    → Covers secret stated (flat_map says.within (map says.Marked ms ++ [])) → Covers secret stated (flat_map says.within (map says.Marked (filter p ms) ++ []))
+offer_fewer secret stated member place size p ms all s there ok =
+    let one = within_one says.within (map says.Marked (filter p ms) ++ []) s there in
+    ⊎_elim
+    (λ (listed : Among one.value (map says.Marked (filter p ms))).
+    let g = given says.Marked (filter p ms) one.value listed in
+    all s (among_flat says.within (map says.Marked ms ++ []) one.value s
+    (subst (λ (x : Statement). Among x (map says.Marked ms ++ [])) (sym g.is) (among_left (says.Marked g.value) (map says.Marked ms) [] (among_map says.Marked ms g.value (among_filtered p ms g.value g.there)))) one.within) ok)
+    (λ none. absurd none)
+    (among_either one.value (map says.Marked (filter p ms)) [] one.there)
+
+offer_kept : (secret : List ℕ) (stated : List Statement) (o : StateOffer) → IsStated secret stated (changes.StateOffer o) → OfferKept secret stated (verified_offer secret o)
+offer_kept secret stated o was = (
+  covered secret stated (flat_map says.within (says.said (changes.StateOffer (verified_offer secret o))))
+      (offer_fewer secret stated o.member o.place o.size (is_verified marks secret) o.marks (covers secret stated (changes.StateOffer o) was)),
+  each_passes (is_verified marks secret) o.marks,
+)
+
+part_kept : (secret : List ℕ) (stated : List Statement) (view : View) (planned : Option Fetch) (p : StatePart) → PlanKept secret stated view planned
+    → PlanKept secret stated view (option_map (λ (f : Fetch). kept_unless None f p) planned)
+part_kept secret stated view None p is = tt
+part_kept secret stated view (Some f) p is = is
+
 -- ---- what comes
 
 sound_arrived : {S : Type 0} (stated : List Statement) (view : View) (n : Node S) (message : Message) (behind : Bool) → IsSound stated view n → why_dropped n message ≡ None
@@ -137,7 +218,7 @@ sound_arrived {S = S} stated view n (Ask q) behind is none was =
     let IsAsked : SignedBy Request → Type 0 = λ r. (is_verified requests n.secret r ≡ true) × IsStated n.secret stated (Ask r) in
     either (λ (m : Node S). IsSound stated view m) (is_next n.replica.table q.statement) (record n { pool = offered n.pool q; behind = behind }) (record n { behind = behind })
     (keeps stated view n (offered n.pool q) n.arrivals n.stops n.reports n.syncs behind is (each_offered IsAsked n.pool q is.pool (tagged, was)) is.arrivals is.stops is.reports is.syncs)
-    (aside stated view n n.firm n.held n.proposed n.stop_made n.sync_made n.impatient behind is is.held)
+    (aside stated view n n.firm n.held n.proposed n.stop_made n.sync_made n.impatient behind is is.held is.late)
 sound_arrived stated view n (Propose p) behind is none was =
     keeps stated view n n.pool (n.arrivals ++ Propose p ∷ []) n.stops n.reports n.syncs behind is is.pool
     (each_end (Arrived n.secret stated view) n.arrivals (Propose p) is.arrivals (λ of. propose_kept stated view n p is none, was)) is.stops is.reports is.syncs
@@ -153,12 +234,23 @@ sound_arrived stated view n (changes.StopData r) behind is none was =
 sound_arrived stated view n (changes.Sync s) behind is none was =
     keeps stated view n n.pool n.arrivals n.stops n.reports (n.syncs ++ s ∷ []) (behind || nat_lt (decided_place n + 1) (choice s.statement.collect).base) is is.pool is.arrivals is.stops is.reports
     (each_end (SyncKept n stated view) n.syncs s is.syncs (λ of. sync_kept stated view n s is none, was))
-sound_arrived stated view n (changes.Mark m) behind is none was = with_marks stated view n (tables_of_marks.noted m n.marks) behind is
-sound_arrived stated view n _ behind is none was = aside stated view n n.firm n.held n.proposed n.stop_made n.sync_made n.impatient behind is is.held
+sound_arrived stated view n (changes.Decision d) behind is none was =
+    transfers stated view n (n.decisions ++ d ∷ []) n.offers n.marks n.fetch behind is
+    (each_end (DecisionKept n.secret stated view) n.decisions d is.decisions (was, decision_kept stated view n d is none)) is.offers is.marked is.fetch
+sound_arrived stated view n (changes.Mark m) behind is none was =
+    transfers stated view n n.decisions n.offers (tables_of_marks.noted m n.marks) n.fetch behind is is.decisions is.offers
+    (each_noted (MarkKept n.secret stated view) m n.marks is.marked (mark_kept stated view n m is none, was)) is.fetch
+sound_arrived stated view n (changes.StateOffer o) behind is none was =
+    transfers stated view n n.decisions (n.offers ++ verified_offer n.secret o ∷ []) n.marks n.fetch behind is is.decisions
+    (each_end (OfferKept n.secret stated) n.offers (verified_offer n.secret o) is.offers (offer_kept n.secret stated o was)) is.marked is.fetch
+sound_arrived stated view n (changes.StatePart p) behind is none was =
+    transfers stated view n n.decisions n.offers n.marks (option_map (λ (f : Fetch). kept_unless None f p) n.fetch) behind is is.decisions is.offers is.marked
+    (part_kept n.secret stated view n.fetch p is.fetch)
+sound_arrived stated view n _ behind is none was = aside stated view n n.firm n.held n.proposed n.stop_made n.sync_made n.impatient behind is is.held is.late
 
 pub sound_noted : {S : Type 0} (stated : List Statement) (view : View) (n : Node S) (message : Message) → IsSound stated view n → IsSound stated view (noted n message)
 unfolding noted
-sound_noted stated view n message is = aside stated view n n.firm n.held n.proposed n.stop_made n.sync_made n.impatient (n.behind || tells_behind n message) is is.held
+sound_noted stated view n message is = aside stated view n n.firm n.held n.proposed n.stop_made n.sync_made n.impatient (n.behind || tells_behind n message) is is.held is.late
 
 pub sound_kept : {S : Type 0} (stated : List Statement) (view : View) (n : Node S) (message : Message) → IsSound stated view n → why_dropped n message ≡ None
     → IsStated n.secret stated message → IsSound stated view (kept (noted n message) message)

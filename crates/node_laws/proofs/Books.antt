@@ -22,7 +22,7 @@ use Rattle.vote_book.specs.declared.entry.LogEntry.TheVariants.{Accepted, Decide
 use Rattle.vote_book.specs.declared.entry.Promise.{Promise}
 use Rattle.vote_book.specs.declared.entry.Start.{Start}
 use Rattle.node_laws.proofs.Lists.{guard}
-use Rattle.node_laws.specs.Sound.{AreRanged, HasDecided, IsBegun, IsHeld, IsWithin}
+use Rattle.node_laws.specs.Sound.{AreLate, AreRangedPast, HasDecided, IsBegun, IsHeld, IsPast, IsWithin}
 use Rattle.agreement_laws.proofs.Growing.{HasReached-more}
 use Rattle.agreement_laws.proofs.Lists.{among_left, each_end, some_equal}
 use Rattle.smart_base.proofs.SameLists.{and_true}
@@ -39,9 +39,9 @@ within_more view place regency place' regency' (Wrote w) p r is = let a = is.pla
 within_more view place regency place' regency' (Accepted a) p r is = let x = is.place_is in let y = is.regency_is in record { of_view = is.of_view; place_is = omega arith; regency_is = omega arith }
 within_more view place regency place' regency' (Promised q) p r is = let b = is.most in record { of_view = is.of_view; some = is.some; most = omega arith }
 within_more view place regency place' regency' (Synced s) p r is = let b = is.most in record { of_view = is.of_view; some = is.some; most = omega arith }
-within_more view place regency place' regency' (Decided d) p r is = let a = is.place_is in let b = is.regency_is in record { of_view = is.of_view; place_is = omega arith; regency_is = omega arith }
+within_more view place regency place' regency' (Decided d) p r is = let a = is.place_is in record { of_view = is.of_view; place_is = omega arith }
 within_more view place regency place' regency' (Installed i) p r is = is
-within_more view place regency place' regency' (Marked m) p r is = is
+within_more view place regency place' regency' (Marked m) p r is = omega (arith, is, p)
 
 pub all_within_more : (view : View) (place regency place' regency' : ℕ) (es : List LogEntry) → place ≤ place' → regency ≤ regency'
     → Each (IsWithin view place regency) es → Each (IsWithin view place' regency') es
@@ -59,19 +59,19 @@ within_push view number place es e all is =
 
 -- ---- what each entry is within by those before it
 
-pub none_ranged : (view : View) → AreRanged view []
-none_ranged view before entry after split = absurd (none before split)
+pub none_ranged : (opening : ℕ) (view : View) → AreRangedPast opening view []
+none_ranged opening view before entry after split = absurd (none before split)
   where
     none : (xs : List LogEntry) → [] ≡ xs ++ entry ∷ after → ⊥
     none [] same = cc
     none (x ∷ xs) same = cc
 
-pub ranged_push : (view : View) (es : List LogEntry) (e : LogEntry) → AreRanged view es
-    → IsWithin view (last_made es + 1) (greatest_regency view.number (es ++ e ∷ [])) e → AreRanged view (es ++ e ∷ [])
-ranged_push view es e ranged within before entry after split =
+pub ranged_push : (opening : ℕ) (view : View) (es : List LogEntry) (e : LogEntry) → AreRangedPast opening view es
+    → IsWithin view (max opening (last_made es) + 1) (greatest_regency view.number (es ++ e ∷ [])) e → AreRangedPast opening view (es ++ e ∷ [])
+ranged_push opening view es e ranged within before entry after split =
     ⊎_elim
-    (λ last. subst (λ (b : List LogEntry). IsWithin view (last_made b + 1) (greatest_regency view.number (b ++ entry ∷ [])) entry) last.0
-    (subst (λ (x : LogEntry). IsWithin view (last_made es + 1) (greatest_regency view.number (es ++ x ∷ [])) x) last.1 within))
+    (λ last. subst (λ (b : List LogEntry). IsWithin view (max opening (last_made b) + 1) (greatest_regency view.number (b ++ entry ∷ [])) entry) last.0
+    (subst (λ (x : LogEntry). IsWithin view (max opening (last_made es) + 1) (greatest_regency view.number (es ++ x ∷ [])) x) last.1 within))
     (λ earlier. ranged before entry earlier.after earlier.split)
     (last_or_earlier es e before entry after split)
 
@@ -199,4 +199,15 @@ held_push secret id stated es e h is =
     record {
       needs = omega (arith, within, length-append es (e ∷ []));
       shown = subst (λ (front : List LogEntry). Each (λ s. Among s stated ⊎ ((signer_of s ≡ Member id) × IsShown digest_of front s)) (statements secret h.message)) (sym same) is.shown;
+    }
+
+-- what is held is as late
+pub late_push : (secret : List ℕ) (stated : List Statement) (view restored : ℕ) (es : List LogEntry) (e : LogEntry) (held : List Held) → AreLate secret stated view restored es held
+    → AreLate secret stated view restored (es ++ e ∷ []) held
+late_push secret stated view restored es e held is =
+    let few = is.few in
+    let same : take restored (es ++ e ∷ []) ≡ take restored es = take-append-le restored es (e ∷ []) few in
+    record {
+      few = omega (arith, few, length-append es (e ∷ []));
+      each = subst (λ (front : List LogEntry). Each (λ (h : Held). Each (λ s. Among s stated ⊎ IsPast view front s) (statements secret h.message)) held) (sym same) is.each;
     }

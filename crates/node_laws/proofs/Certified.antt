@@ -33,7 +33,7 @@ use Rattle.smart_base.proofs.ViewFacts.{each-weaken}
 -- ---- members that ascend are distinct
 
 -- each above the one before, and the first above a last one
-abbrev Rising : ℕ → List ℕ → Type 0
+abbrev pub Rising : ℕ → List ℕ → Type 0
 Rising last [] = Unit {0}
 Rising last (x ∷ xs) = (last < x) × Rising x xs
 
@@ -47,14 +47,14 @@ rising_lower : (low last : ℕ) (xs : List ℕ) → low ≤ last → Rising last
 rising_lower low last [] le is = tt
 rising_lower low last (x ∷ xs) le is = let above : last < x = is.0 in (omega (arith, le, above), is.1)
 
-rising_filter : (p : ℕ → Bool) (last : ℕ) (xs : List ℕ) → Rising last xs → Rising last (filter p xs)
+pub rising_filter : (p : ℕ → Bool) (last : ℕ) (xs : List ℕ) → Rising last xs → Rising last (filter p xs)
 rising_filter p last [] is = tt
 rising_filter p last (x ∷ xs) is =
     let above : last < x = is.0 in
     either (λ (ys : List ℕ). Rising last ys) (p x) (x ∷ filter p xs) (filter p xs) (above, rising_filter p x xs is.1)
     (rising_lower last x (filter p xs) (omega (arith, above)) (rising_filter p x xs is.1))
 
-rising_take : (k last : ℕ) (xs : List ℕ) → Rising last xs → Rising last (take k xs)
+pub rising_take : (k last : ℕ) (xs : List ℕ) → Rising last xs → Rising last (take k xs)
 rising_take zero last xs is = tt
 rising_take (suc k) last [] is = tt
 rising_take (suc k) last (x ∷ xs) is = (is.0, rising_take k x xs is.1)
@@ -69,11 +69,11 @@ none_below x last (y ∷ ys) le is =
     let above : last < y = is.0 in
     rw (apart x y (y == x) (omega (arith, le, above)) refl) (none_below x y ys (omega (arith, le, above)) is.1)
 
-rising_distinct : (last : ℕ) (xs : List ℕ) → Rising last xs → Distinct xs
+pub rising_distinct : (last : ℕ) (xs : List ℕ) → Rising last xs → Distinct xs
 rising_distinct last [] is = tt
 rising_distinct last (x ∷ xs) is = (none_below x x xs (omega arith) is.1, rising_distinct x xs is.1)
 
-view_rising : (v : View) → is_view v ≡ true → Rising 0 v.members
+pub view_rising : (v : View) → is_view v ≡ true → Rising 0 v.members
 unfolding is_view
 view_rising v is = ascends_rising 0 v.members (and_true _ (ascends 0 v.members) is).1
 
@@ -153,7 +153,7 @@ signers_step : (f : ℕ → Option (SignedBy Ballot)) (m : ℕ) (ms : List ℕ) 
 signers_step f m ms None at some own rest = absurd (cc)
 signers_step f m ms (Some b) at some own rest = let head : b.signer ≡ m = own b at in cc
 
-signers_all : (f : ℕ → Option (SignedBy Ballot)) (ms : List ℕ) → Each (λ m. is_some (f m) ≡ true) ms → ((m : ℕ) (b : SignedBy Ballot) → f m ≡ Some b → b.signer ≡ m)
+pub signers_all : (f : ℕ → Option (SignedBy Ballot)) (ms : List ℕ) → Each (λ m. is_some (f m) ≡ true) ms → ((m : ℕ) (b : SignedBy Ballot) → f m ≡ Some b → b.signer ≡ m)
     → signers (filter_map f ms) ≡ ms
 signers_all f [] some own = refl
 signers_all f (m ∷ ms) some own = signers_step f m ms (f m) refl some.0 (own m) (signers_all f ms some.1 own)

@@ -1,5 +1,5 @@
 -- A node that decides stays sound.
-use Rattle.std.proofs.Common.{List, None, Option, Some, ap, arith, nat_le, nat_lt, refl, subst, suc, sym, true, zero, ℕ, ⊎_elim, ◌≡◌, ◌==◌, ◌&&◌, ◌∙◌, ◌≤◌, ◌+◌, ◌++◌, ◌∷◌, []}
+use Rattle.std.proofs.Common.{List, None, Option, Some, ap, arith, nat_le, nat_lt, refl, subst, suc, sym, true, zero, ℕ, ⊎_elim, ◌≡◌, ◌==◌, ◌&&◌, ◌∙◌, ◌≤◌, ◌+◌, ◌++◌, ◌∷◌, [], inl, inr, ◌⊎◌}
 use Rattle.std.proofs.lemmas.Bool.{eqb-true}
 use Rattle.std.specs.List.{filter_map}
 use Rattle.std.specs.Prelude.{is_none, option_map, ◌^◌}
@@ -10,7 +10,9 @@ use Rattle.replica_rules.specs.Seals.{digest_of}
 use Rattle.agreement_laws.specs.Certificates.{IsDrawn}
 use Rattle.agreement_laws.specs.Statements.{Statement}
 use Rattle.node_rules.specs.Nodes.{Node, is_free, next_place, regency_of, view_of}
-use Rattle.node_rules.specs.Rules.{decide_batch, decides, deciding, decision_ahead, decision_in, slot_in}
+use Rattle.node_rules.specs.Arrivals.{regency_by}
+use Rattle.node_rules.specs.Rules.{decide_batch, decides, deciding, decision_ahead, decision_in, decision_shown, first_votes, shown_next, slot_in}
+use Rattle.transfer_form.specs.declared.transfer.ProvenBatch.{ProvenBatch}
 use Rattle.smart_base.specs.Lists.{Each, or_else}
 use Rattle.smart_base.specs.Views.{View, is_view}
 use Rattle.smart_messages.specs.declared.message.Message.{Message}
@@ -18,13 +20,14 @@ use Rattle.smart_messages.specs.declared.message.Message.TheVariants.{Propose}
 use Rattle.smart_statements.specs.declared.statement.Slot.{Slot}
 use Rattle.vote_book.proofs.Last.{last_push, latest_push}
 use Rattle.vote_book.specs.BookReports.{accept_for}
-use Rattle.vote_book.specs.Books.{Among, Follows}
+use Rattle.vote_book.specs.Books.{Among, Follows, latest_made}
 use Rattle.vote_book.specs.declared.entry.Accept.{Accept}
 use Rattle.vote_book.specs.declared.entry.Decision.{Decision}
 use Rattle.vote_book.specs.declared.entry.LogEntry.{LogEntry}
 use Rattle.vote_book.specs.declared.entry.LogEntry.TheVariants.{Accepted, Decided, Installed, Marked, Opened, Promised, Synced, Wrote}
 use Rattle.node_laws.proofs.Lists.{among_last, each_filter_map_in, found, guard}
-use Rattle.node_laws.proofs.Nodes.{Arrived, Makes, MayPush, pushes}
+use Rattle.node_laws.proofs.Nodes.{Arrived, DecisionKept, Makes, MayPush, pushes}
+use Rattle.node_laws.proofs.Showing.{first_drawn, shown_asked, shown_stated}
 use Rattle.node_laws.proofs.Stated.{may_stand}
 use Rattle.node_laws.proofs.Votes.{in_force, made_last, made_latest, place_of_some}
 use Rattle.node_laws.proofs.Voting.{drawn_at, proposal_may}
@@ -124,30 +127,62 @@ unfolding decision_in
 decides_in n regency d is =
     decides_by n regency d (accepted_in (view_of n) (slot_in n regency) n.arrivals (known (view_of n).number (next_place n) (regency_of n) n.arrivals n.entries)) refl is
 
--- in the regency in force, or in the next
-pub record IsDue {S : Type 0} (n : Node S) (d : Decision) : Type 0 where
-  pub free : is_none n.waiting ≡ true
+-- a decision that others showed, of the next place
+pub record FromShown {S : Type 0} (n : Node S) (d : Decision) : Type 0 where
+  pub shown : ProvenBatch
+  pub there : Among shown n.decisions
+  pub place_is : shown.place ≡ next_place n
+  pub decision_is : d ≡ decision_shown n shown
+
+-- a decision that kept votes prove, in the regency in force, or in the next
+pub record FromVotes {S : Type 0} (n : Node S) (d : Decision) : Type 0 where
   pub regency : ℕ
   pub most : regency ≤ regency_of n + 1
   pub decides : Decides n regency d
 
+-- a decision of the next place that is due
+pub record IsDue {S : Type 0} (n : Node S) (d : Decision) : Type 0 where
+  pub free : is_none n.waiting ≡ true
+  pub place_is : d.slot.place ≡ next_place n
+  pub how : FromShown n d ⊎ FromVotes n d
+
+shown_due : {S : Type 0} (n : Node S) (d : Decision) (o : Option ProvenBatch) → is_none n.waiting ≡ true → shown_next n ≡ o → option_map (decision_shown n) o ≡ Some d → IsDue n d
+shown_due n d None free at is = absurd (cc)
+shown_due n d (Some x) free at is =
+    let f = found (λ (y : ProvenBatch). y.place == next_place n) n.decisions x at in
+    let same : d ≡ decision_shown n x = sym (some_equal (decision_shown n x) d is) in
+    let place : x.place ≡ next_place n = eqb-true x.place (next_place n) f.passes in
+    record { free = free; place_is = ap (λ (y : Decision). y.slot.place) same ∙ place; how = inl (record { shown = x; there = f.there; place_is = place; decision_is = same }) }
+
+votes_due : {S : Type 0} (n : Node S) (d : Decision) (regency : ℕ) → is_none n.waiting ≡ true → regency ≤ regency_of n + 1 → Decides n regency d → IsDue n d
+votes_due n d regency free most decides = record {
+  free = free;
+  place_is = ap (λ (y : Decision). y.slot.place) decides.decision_is;
+  how = inr (record { regency = regency; most = most; decides = decides });
+}
+
 pub due_is : {S : Type 0} (n : Node S) (d : Decision) → deciding n ≡ Some d → IsDue n d
 unfolding deciding
 due_is n d is =
-    let parts = guard (is_free n) (or_else (decision_in n (regency_of n)) (decision_ahead n)) d is in
+    let others = option_map (decision_shown n) (shown_next n) in
+    let votes = or_else (decision_in n (regency_of n)) (decision_ahead n) in
+    let parts = guard (is_free n) (or_else others votes) d is in
     let free = (and_true (is_none n.waiting) (nat_lt (next_place n) (2 ^ 63)) parts.0).0 in
     ⊎_elim
-    (λ here. record { free = free; regency = regency_of n; most = omega arith; decides = decides_in n (regency_of n) d here })
-    (λ ahead.
+    (λ (one : others ≡ Some d). shown_due n d (shown_next n) free refl one)
+    (λ (own : votes ≡ Some d). ⊎_elim
+    (λ (here : decision_in n (regency_of n) ≡ Some d). votes_due n d (regency_of n) free (omega arith) (decides_in n (regency_of n) d here))
+    (λ (ahead : decision_ahead n ≡ Some d).
     let next = guard (nat_lt (regency_of n + 1) (2 ^ 32)) (decision_in n (regency_of n + 1)) d ahead in
-    record { free = free; regency = regency_of n + 1; most = omega arith; decides = decides_in n (regency_of n + 1) d next.1 })
-    (else_some (decision_in n (regency_of n)) (decision_ahead n) d parts.1)
+    votes_due n d (regency_of n + 1) free (omega arith) (decides_in n (regency_of n + 1) d next.1))
+    (else_some (decision_in n (regency_of n)) (decision_ahead n) d own))
+    (else_some others votes d parts.1)
 
 -- ---- decide
 
-follows_next : (k : ℕ) → Follows 0 (place_if k) (k + 1)
-follows_next zero = omega arith
-follows_next (suc k) = omega arith
+follows_next : (opening k : ℕ) → Follows opening (place_if k) (k + 1)
+follows_next opening zero = omega arith
+follows_next opening (suc k) = omega arith
 
 next_if : (k : ℕ) → place_if (k + 1) ≡ Some (k + 1)
 next_if k = place_of_some (k + 1) (omega arith)
@@ -157,19 +192,35 @@ it_is : {S : Type 0} (n : Node S) (regency : ℕ) (x : Named) → Decision
 it_is n regency x = record { slot = slot_in n regency; batch = x.batch; accepts = certificate_votes n.arrivals (view_of n) kinds.Accept (slot_in n regency) x.digest }
 
 may_decide : {S : Type 0} (stated : List Statement) (view : View) (n : Node S) (regency : ℕ) (x : Named) → is_view view ≡ true → IsSound stated view n → is_none n.waiting ≡ true
-    → regency ≤ regency_of n + 1 → IsNamed n.secret stated (next_place n) x → has_quorum n.arrivals (view_of n) kinds.Accept (slot_in n regency) x.digest ≡ true
+    → IsNamed n.secret stated (next_place n) x → has_quorum n.arrivals (view_of n) kinds.Accept (slot_in n regency) x.digest ≡ true
     → MayPush stated view n (Decided (it_is n regency x))
 unfolding it_is
-may_decide stated view n regency x viewed is free most named enough =
+may_decide stated view n regency x viewed is free named enough =
     let same : digest_of x.batch ≡ x.digest = (may_stand n.secret (next_place n) x.digest x.batch named.may).named in
     record {
-      admits = subst (λ (o : Option ℕ). Follows 0 o (next_place n)) (sym (made_latest stated view n is free)) (follows_next n.replica.place);
+      admits = subst (λ (o : Option ℕ). Follows n.opening o (next_place n)) (sym (made_latest stated view n is free)) (follows_next n.opening n.replica.place);
       tidy = tt;
-      within = record { of_view = ap (λ (v : View). v.number) (in_force stated view n is); place_is = omega arith; regency_is = omega (arith, most) };
+      within = record { of_view = ap (λ (v : View). v.number) (in_force stated view n is); place_is = omega arith };
       backed = λ of. subst
           (λ (d : List ℕ). IsDrawn n.secret view stated (accept_of (slot_of view (next_place n) regency) d) (certificate_votes n.arrivals (view_of n) kinds.Accept (slot_in n regency) x.digest))
           (sym same) (drawn_at n.secret stated view (view_of n) n.arrivals kinds.Accept (next_place n) regency x.digest (in_force stated view n is) viewed is.arrivals enough);
       batch = subst (λ (d : List ℕ). IsBatchAt n.secret stated (next_place n) d x.batch) (sym same) named;
+    }
+
+-- what others showed may be decided
+may_shown : {S : Type 0} (stated : List Statement) (view : View) (n : Node S) (x : ProvenBatch) → is_view view ≡ true → IsSound stated view n → is_none n.waiting ≡ true → x.place ≡ next_place n
+    → DecisionKept n.secret stated view x → MayPush stated view n (Decided (decision_shown n x))
+may_shown {S = S} stated view n x viewed is free place kept =
+    let same : view_of n ≡ view = in_force stated view n is in
+    let cert = kept.1.accepts in
+    let drawn = first_drawn n.secret stated view (accept_of (slot_of view x.place (regency_by x.accepts)) (digest_of x.batch)) x.accepts viewed cert (shown_stated n.secret stated x kept.0 cert.0.verified) in
+    record {
+      admits = subst (λ (k : ℕ). Follows n.opening (latest_made n.entries) k) (sym place)
+          (subst (λ (o : Option ℕ). Follows n.opening o (next_place n)) (sym (made_latest stated view n is free)) (follows_next n.opening n.replica.place));
+      tidy = tt;
+      within = record { of_view = ap (λ (v : View). v.number) same; place_is = omega (arith, place) };
+      backed = λ of. subst (λ (v : View). IsDrawn n.secret view stated (accept_of (slot_of view x.place (regency_by x.accepts)) (digest_of x.batch)) (first_votes v x.accepts)) (sym same) drawn;
+      batch = record { may = kept.1.batch; asked = shown_asked n.secret stated view x kept.0 kept.1 };
     }
 
 pub decides_makes : {S : Type 0} (stated : List Statement) (view : View) (n : Node S) (d : Decision) → IsSound stated view n → is_none n.waiting ≡ true → d.slot.place ≡ next_place n
@@ -183,19 +234,34 @@ decides_makes stated view n d is free at =
       waiting = record { decision = d; there = among_last (Decided d) n.entries; place_is = at; batch_is = refl };
     }
 
-decides_it : {S : Type 0} (stated : List Statement) (view : View) (n : Node S) (d : Decision) → is_view view ≡ true → IsSound stated view n → IsDue n d
+decides_votes : {S : Type 0} (stated : List Statement) (view : View) (n : Node S) (d : Decision) → is_view view ≡ true → IsSound stated view n → is_none n.waiting ≡ true → FromVotes n d
     → IsSound stated view (record n { entries = n.entries ++ Decided d ∷ []; waiting = Some d.batch })
 unfolding it_is
-decides_it {S = S} stated view n d viewed is due =
+decides_votes {S = S} stated view n d viewed is free due =
     let r = due.regency in
     let x = due.decides.named in
     let it : Decision = it_is n r x in
     let named = each_among (IsNamed n.secret stated (next_place n)) (known (view_of n).number (next_place n) (regency_of n) n.arrivals n.entries) x
     (all_known stated view n (view_of n).number (next_place n) (regency_of n) (ap (λ (v : View). v.number) (in_force stated view n is)) is) due.decides.there in
     let pushed : IsSound stated view (record n { entries = n.entries ++ Decided it ∷ []; waiting = Some it.batch }) =
-    pushes stated view n (Decided it) (Some it.batch) is (may_decide stated view n r x viewed is due.free due.most named due.decides.accepted)
-    (decides_makes stated view n it is due.free refl) in
+    pushes stated view n (Decided it) (Some it.batch) is (may_decide stated view n r x viewed is free named due.decides.accepted)
+    (decides_makes stated view n it is free refl) in
     subst (λ (y : Decision). IsSound stated view (record n { entries = n.entries ++ Decided y ∷ []; waiting = Some y.batch })) (sym due.decides.decision_is) pushed
+
+decides_shown : {S : Type 0} (stated : List Statement) (view : View) (n : Node S) (d : Decision) → is_view view ≡ true → IsSound stated view n → is_none n.waiting ≡ true → FromShown n d
+    → IsSound stated view (record n { entries = n.entries ++ Decided d ∷ []; waiting = Some d.batch })
+decides_shown {S = S} stated view n d viewed is free due =
+    let x = due.shown in
+    let it : Decision = decision_shown n x in
+    let kept = each_among (DecisionKept n.secret stated view) n.decisions x is.decisions due.there in
+    let pushed : IsSound stated view (record n { entries = n.entries ++ Decided it ∷ []; waiting = Some it.batch }) =
+    pushes stated view n (Decided it) (Some it.batch) is (may_shown stated view n x viewed is free due.place_is kept) (decides_makes stated view n it is free due.place_is) in
+    subst (λ (y : Decision). IsSound stated view (record n { entries = n.entries ++ Decided y ∷ []; waiting = Some y.batch })) (sym due.decision_is) pushed
+
+decides_it : {S : Type 0} (stated : List Statement) (view : View) (n : Node S) (d : Decision) → is_view view ≡ true → IsSound stated view n → IsDue n d
+    → IsSound stated view (record n { entries = n.entries ++ Decided d ∷ []; waiting = Some d.batch })
+decides_it stated view n d viewed is due =
+    ⊎_elim (λ (one : FromShown n d). decides_shown stated view n d viewed is due.free one) (λ (own : FromVotes n d). decides_votes stated view n d viewed is due.free own) due.how
 
 decides_with : {S : Type 0} (stated : List Statement) (view : View) (n : Node S) (o : Option Decision) → is_view view ≡ true → IsSound stated view n → deciding n ≡ o
     → IsSound stated view (decide_batch n o)

@@ -25,7 +25,7 @@ use Rattle.smart_service.specs.declared.table.TableLine.{TableLine}
 use Rattle.vote_book.specs.Books.{last_made}
 use Rattle.vote_book.specs.declared.entry.LogEntry.{LogEntry}
 use Rattle.node_laws.proofs.Books.{all_within_more}
-use Rattle.node_laws.proofs.Nodes.{Shows, holds}
+use Rattle.node_laws.proofs.Nodes.{Late, Shows, holds}
 use Rattle.node_laws.specs.Sound.{AreAsked, IsSound, IsStated, answer_by, place_if}
 use Rattle.node_rules.specs.declared.node.Target.TheVariants as targets
 use Rattle.agreement_laws.specs.Statements as says
@@ -47,7 +47,7 @@ each_noting P (old ∷ olds) x each is =
     either (λ (lines : List TableLine). Each P (kept_in lines)) (old.last.client == x.client) (line ∷ olds) (cond (nat_lt x.client old.last.client) (line ∷ old ∷ olds) (old ∷ noting olds x)) (is, each.1)
     (either (λ (lines : List TableLine). Each P (kept_in lines)) (nat_lt x.client old.last.client) (line ∷ old ∷ olds) (old ∷ noting olds x) (is, each) (each.0, each_noting P olds x each.1 is))
 
-table_execute : {S : Type 0} (m : Meaning S) (r : Replica S) (i : ℕ) (q : Request) (P : Execution → Type 0) → Each P (kept_in r.table) → P (line_of m r i q) → Each P (kept_in (execute m r i q).table)
+pub table_execute : {S : Type 0} (m : Meaning S) (r : Replica S) (i : ℕ) (q : Request) (P : Execution → Type 0) → Each P (kept_in r.table) → P (line_of m r i q) → Each P (kept_in (execute m r i q).table)
 unfolding execute
 table_execute {S = S} m r i q P each is =
     either (λ (x : Replica S). Each P (kept_in x.table)) (is_next r.table q) _ r (each_noting P r.table (line_of m r i q) each is) each
@@ -72,7 +72,7 @@ lines_all m r es place i (q ∷ qs) at reached =
 
 -- ---- the replica at the next place
 
-replica_is : {S : Type 0} (r : Replica S) (views : List View) (place : ℕ) → r.views ≡ views → r.place ≡ place → record { service = r.service; table = r.table; views = views; place = place } ≡ r
+pub replica_is : {S : Type 0} (r : Replica S) (views : List View) (place : ℕ) → r.views ≡ views → r.place ≡ place → record { service = r.service; table = r.table; views = views; place = place } ≡ r
 replica_is {S = S} r views place v p =
     let make : List View → ℕ → Replica S = λ vs k. record { service = r.service; table = r.table; views = vs; place = k } in
     ap (λ vs. make vs place) (sym v) ∙ ap (λ k. make r.views k) (sym p)
@@ -127,8 +127,13 @@ sound_onward stated view n batch service table pool is waits answered asked =
       stops = is.stops;
       reports = is.reports;
       syncs = is.syncs;
+      decisions = is.decisions;
+      offers = is.offers;
+      marked = is.marked;
+      fetch = is.fetch;
       pool = asked;
       held = is.held;
+      late = is.late;
     }
 
 -- ---- answer
@@ -139,6 +144,7 @@ sound_reply stated view n line is has =
     let says_it = says.Replied (signed answers n.secret n.id (answer_by line)) in
     holds stated view n (targets.Client line.client) (reply_of n.secret n.id line) is
     (each_filter (Shows stated n) (says.verifies n.secret) (says_it ∷ []) (inr (refl, has), tt))
+    (each_filter (Late stated view n) (says.verifies n.secret) (says_it ∷ []) (inr tt, tt))
 
 sound_replying : {S : Type 0} (stated : List Statement) (view : View) (n : Node S) (lines : List Execution) → IsSound stated view n → Each (IsReached n.entries) lines
     → IsSound stated view (replying n lines)
@@ -192,10 +198,9 @@ kept_reply_each P table client seq each =
     either (λ (found : Option Execution). IfSome found P) (seq == last_seq table client) (option_map (λ line. line.last) (line_for table client)) None
     (kept_each P (line_for table client) (line_for_each P table client each)) tt
 
-pub answering_each : {S : Type 0} (P : Execution → Type 0) (n : Node S) (asked : Option Asked) → Each P (kept_in n.replica.table) → IfSome (answering n asked) P
+pub answering_each : {S : Type 0} (P : Execution → Type 0) (n : Node S) (asked : Asked) → Each P (kept_in n.replica.table) → IfSome (answering n asked) P
 unfolding answering
-answering_each P n None each = tt
-answering_each P n (Some asked) each = kept_reply_each P n.replica.table asked.client asked.seq each
+answering_each P n asked each = kept_reply_each P n.replica.table asked.client asked.seq each
 
 answers_line : {S : Type 0} (stated : List Statement) (view : View) (n : Node S) (o : Option Execution) → IsSound stated view n → IfSome o (IsReached n.entries)
     → IsSound stated view (answer_line n o)
@@ -203,6 +208,6 @@ unfolding answer_line
 answers_line stated view n None is has = is
 answers_line stated view n (Some line) is has = sound_reply stated view n line is has
 
-pub sound_answers_again : {S : Type 0} (stated : List Statement) (view : View) (n : Node S) (asked : Option Asked) → IsSound stated view n → IsSound stated view (answers_again n asked)
+pub sound_answers_again : {S : Type 0} (stated : List Statement) (view : View) (n : Node S) (asked : Asked) → IsSound stated view n → IsSound stated view (answers_again n asked)
 unfolding answers_again
 sound_answers_again stated view n asked is = answers_line stated view n (answering n asked) is (answering_each (IsReached n.entries) n asked is.table)

@@ -20,11 +20,11 @@ use Rattle.smart_base.proofs.SameLists.{and_true}
 -- ---- one place after the other
 
 -- the latest place that is made, by how many batches are decided past a place
-abbrev TurnAt : ℕ → Option ℕ → ℕ → Type 0
+abbrev pub TurnAt : ℕ → Option ℕ → ℕ → Type 0
 TurnAt past None count = count ≡ 0
 TurnAt past (Some latest) count = ((latest ≤ past) × (count ≡ 0)) ⊎ (latest ≡ past + count)
 
-abbrev InTurn : ℕ → List LogEntry → Type 0
+abbrev pub InTurn : ℕ → List LogEntry → Type 0
 InTurn past es = TurnAt past (latest_made es) (length (decided_of past es))
 
 turn_next : (past : ℕ) (latest : Option ℕ) (count place : ℕ) → Follows past latest place → TurnAt past latest count → past < place → place ≡ past + count + 1
@@ -103,6 +103,10 @@ turns_on past restored before (e ∷ es) few lawful is =
     subst (InTurn past) whole
     (turns_on past restored (before ++ e ∷ []) es next (subst (λ (xs : List LogEntry). Lawful past restored xs) (sym whole) lawful)
     (turn_step past restored before e (omega (arith, few)) (lawful before e es refl) is))
+
+-- so do entries that may all be restored
+pub all_in_turn : (past : ℕ) (es : List LogEntry) → Lawful past (length es) es → InTurn past es
+all_in_turn past es lawful = turns_on past (length es) [] es (omega arith) lawful refl
 
 turns_at : (past restored : ℕ) (before : List LogEntry) (d : Decision) (after : List LogEntry) → length (before ++ Decided d ∷ after) ≤ restored
     → Lawful past restored (before ++ Decided d ∷ after) → past < d.slot.place → d.slot.place ≡ past + length (decided_of past before) + 1

@@ -1,10 +1,10 @@
 -- A node that asks for a regency, begins one or presses stays sound.
-use Rattle.std.proofs.Common.{List, None, Option, Some, ap, inl, inr, refl, subst, sym, true, ℕ, ⊎_elim, ◌+◌, ◌∷◌, [], ◌≡◌}
+use Rattle.std.proofs.Common.{List, None, Option, Some, ap, false, inl, inr, refl, subst, sym, true, ℕ, ⊎_elim, ◌+◌, ◌∷◌, [], ◌≡◌}
 use Rattle.std.specs.List.{filter_map, flat_map}
 use Rattle.std.specs.Prelude.{find, option_map}
 use Rattle.replica_rules.specs.Seals.{signed}
 use Rattle.agreement_laws.specs.Statements.{Statement, statements}
-use Rattle.node_rules.specs.Changes.{asks_next, joining, joins, lead_with, leading, leads, passes_on, presses, stop_for, times, timing}
+use Rattle.node_rules.specs.Changes.{asks_next, asks_state, joining, joins, lags, lead_with, leading, leads, passes_on, presses, state_ask, stop_for, times, timing}
 use Rattle.node_rules.specs.Nodes.{Node, regency_of, synchronizer_of, view_of}
 use Rattle.regency_sync.specs.Synchronizers.{collect, collecting, first_report, is_collecting, is_report}
 use Rattle.smart_base.specs.Lists.{Each}
@@ -20,7 +20,7 @@ use Rattle.smart_statements.specs.declared.statement.Request.{Request}
 use Rattle.smart_view.specs.Sizes.{collect_size}
 use Rattle.vote_book.specs.Books.{Among}
 use Rattle.node_laws.proofs.Lists.{each_filter_map, found, guard}
-use Rattle.node_laws.proofs.Nodes.{ReportKept, Shows, aside, holds}
+use Rattle.node_laws.proofs.Nodes.{Late, ReportKept, Shows, aside, holds, transfers}
 use Rattle.node_laws.proofs.Stated.{Covers, covers, each_verified, flat_covers}
 use Rattle.node_laws.specs.Sound.{AreAsked, IsSound}
 use Rattle.smart_messages.specs.declared.message.Message.TheVariants as changes
@@ -36,9 +36,10 @@ pub sound_asks : {S : Type 0} (stated : List Statement) (view : View) (n : Node 
 unfolding regency_of
 sound_asks {S = S} stated view n is =
     let m : Node S = record n { stop_made = true } in
-    let marked : IsSound stated view m = aside stated view n n.firm n.held n.proposed true n.sync_made n.impatient n.behind is is.held in
+    let marked : IsSound stated view m = aside stated view n n.firm n.held n.proposed true n.sync_made n.impatient n.behind is is.held is.late in
     let says_it = says.Stopped (signed stops n.secret n.id (record { view = (view_of n).number; regency = regency_of n + 1 })) in
     holds stated view m targets.View (stop_for n) marked (each_filter (Shows stated m) (says.verifies n.secret) (says_it ∷ []) (inr (refl, tt), tt))
+    (each_filter (Late stated view m) (says.verifies n.secret) (says_it ∷ []) (inr tt, tt))
 
 pub sound_joins : {S : Type 0} (stated : List Statement) (view : View) (n : Node S) → IsSound stated view n → IsSound stated view (joins n)
 unfolding joins
@@ -82,16 +83,23 @@ sync_shown stated n sync own all s (inl same) ok = subst (λ (x : Statement). Sh
 sync_shown stated n sync own all s (inr there) ok =
     ⊎_elim (λ inside. inl (all s inside ok)) (λ none. absurd none) (among_either s (flat_map says.in_report sync.statement.collect) [] there)
 
+sync_late : {S : Type 0} (stated : List Statement) (view : View) (n : Node S) (sync : SignedBy Sync) → Covers n.secret stated (flat_map says.in_report sync.statement.collect)
+    → (s : Statement) → Among s (flat_map says.within (says.said (changes.Sync sync))) → says.verifies n.secret s ≡ true → Late stated view n s
+sync_late stated view n sync all s (inl same) ok = subst (λ (x : Statement). Late stated view n x) (sym same) (inr tt)
+sync_late stated view n sync all s (inr there) ok =
+    ⊎_elim (λ inside. inl (all s inside ok)) (λ none. absurd none) (among_either s (flat_map says.in_report sync.statement.collect) [] there)
+
 leads_with : {S : Type 0} (stated : List Statement) (view : View) (n : Node S) (o : Option (List (SignedBy Report))) → IsSound stated view n → leading n ≡ o → IsSound stated view (lead_with n o)
 unfolding lead_with
 leads_with stated view n None is at = is
 leads_with {S = S} stated view n (Some items) is at =
     let m : Node S = record n { sync_made = true } in
-    let marked : IsSound stated view m = aside stated view n n.firm n.held n.proposed n.stop_made true n.impatient n.behind is is.held in
+    let marked : IsSound stated view m = aside stated view n n.firm n.held n.proposed n.stop_made true n.impatient n.behind is is.held is.late in
     let sync : SignedBy Sync = signed syncs n.secret n.id (record { view = (view_of n).number; regency = regency_of n; collect = items }) in
     holds stated view m targets.View (changes.Sync sync) marked
     (each_verified n.secret (Shows stated m) (flat_map says.within (says.said (changes.Sync sync)))
     (sync_shown stated m sync refl (collect_covers stated view n items is at)))
+    (each_verified n.secret (Late stated view m) (flat_map says.within (says.said (changes.Sync sync))) (sync_late stated view m sync (collect_covers stated view n items is at)))
 
 pub sound_leads : {S : Type 0} (stated : List Statement) (view : View) (n : Node S) → IsSound stated view n → IsSound stated view (leads n)
 unfolding leads
@@ -105,14 +113,24 @@ sound_passes_on stated view n [] is asked = is
 sound_passes_on stated view n (q ∷ qs) is asked =
     holds stated view n (targets.Node (leader (view_of n) (regency_of n))) (Ask q) is
     (each-weaken (λ s. Among s stated) (Shows stated n) (λ s there. inl there) (statements n.secret (Ask q)) asked.0.1)
+    (each-weaken (λ s. Among s stated) (Late stated view n) (λ s there. inl there) (statements n.secret (Ask q)) asked.0.1)
 
 sound_presses : {S : Type 0} (stated : List Statement) (view : View) (n : Node S) → IsSound stated view n → IsSound stated view (presses n)
 unfolding presses
 sound_presses {S = S} stated view n is =
     let m : Node S = record n { impatient = true } in
-    let marked : IsSound stated view m = aside stated view n n.firm n.held n.proposed n.stop_made n.sync_made true n.behind is is.held in
+    let marked : IsSound stated view m = aside stated view n n.firm n.held n.proposed n.stop_made n.sync_made true n.behind is is.held is.late in
     either (λ (k : Node S). IsSound stated view k) n.impatient (asks_next n) (passes_on m n.pool) (sound_asks stated view n is) (sound_passes_on stated view m n.pool marked is.pool)
+
+-- an ask for state and a part state nothing
+pub sound_asks_state : {S : Type 0} (stated : List Statement) (view : View) (n : Node S) → IsSound stated view n → IsSound stated view (asks_state n)
+unfolding asks_state
+sound_asks_state {S = S} stated view n is =
+    let m : Node S = record n { offers = []; fetch = None; behind = false } in
+    holds stated view m targets.View (state_ask n 0) (transfers stated view n n.decisions [] n.marks None false is is.decisions tt is.marked tt) tt tt
 
 pub sound_times : {S : Type 0} (stated : List Statement) (view : View) (n : Node S) → IsSound stated view n → IsSound stated view (times n)
 unfolding times
-sound_times {S = S} stated view n is = either (λ (m : Node S). IsSound stated view m) (timing n) (presses n) n (sound_presses stated view n is) is
+sound_times {S = S} stated view n is =
+    either (λ (m : Node S). IsSound stated view m) (lags n) (asks_state n) _ (sound_asks_state stated view n is)
+    (either (λ (m : Node S). IsSound stated view m) (timing n) (presses n) n (sound_presses stated view n is) is)

@@ -5,13 +5,17 @@ pub mod Votes
 pub mod Stated
 pub mod Certified
 pub mod Voting
+pub mod Showing
 pub mod Deciding
 pub mod Promised
 pub mod Adopting
 pub mod Promising
 pub mod Leading
+pub mod Marking
 pub mod Proposing
 pub mod Delivering
+pub mod Planning
+pub mod Installing
 pub mod Arriving
 pub mod More
 pub mod Passes
@@ -22,3 +26,6 @@ pub mod InTurn
 pub mod CertifiedBooks
 pub mod Damage
 pub mod Undamaged
+pub mod Cuts
+pub mod CutNodes
+pub mod CutShown

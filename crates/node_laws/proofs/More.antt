@@ -1,11 +1,12 @@
 -- A node stays sound where more has been stated.
-use Rattle.std.proofs.Common.{List, inl, inr, take, true, ℕ, ⊎_elim, ◌≡◌, ◌⊎◌}
+use Rattle.std.proofs.Common.{List, None, Option, Some, inl, inr, take, true, ℕ, ⊎_elim, ◌≡◌, ◌⊎◌}
 use Rattle.replica_rules.specs.Seals.{digest_of, is_verified}
-use Rattle.agreement_laws.specs.Certificates.{IsBacked, IsChosen, IsDrawn}
+use Rattle.agreement_laws.specs.Certificates.{IsBacked, IsChosen, IsDrawn, IsTaken}
 use Rattle.agreement_laws.specs.Diaries.{IsShown}
 use Rattle.agreement_laws.specs.Statements.{Statement, signer_of, statements}
 use Rattle.node_rules.specs.Nodes.{Node}
 use Rattle.node_rules.specs.declared.node.Held.{Held}
+use Rattle.smart_base.specs.Lists.{Each}
 use Rattle.smart_base.specs.Views.{View}
 use Rattle.smart_base.specs.declared.party.Party.TheVariants.{Member}
 use Rattle.smart_statements.specs.Forms.{SignedBy}
@@ -14,11 +15,13 @@ use Rattle.smart_statements.specs.Batches.{Batch}
 use Rattle.smart_messages.specs.declared.message.Message.TheVariants.{Ask}
 use Rattle.smart_statements.specs.declared.statement.Ballot.{Ballot}
 use Rattle.vote_book.specs.Books.{Among}
+use Rattle.vote_book.specs.declared.entry.Installation.{Installation}
 use Rattle.vote_book.specs.declared.entry.LogEntry.{LogEntry}
 use Rattle.vote_book.specs.declared.entry.LogEntry.TheVariants.{Accepted, Decided, Installed, Marked, Opened, Promised, Synced, Wrote}
 use Rattle.vote_book.specs.declared.entry.Start.{Start}
-use Rattle.node_laws.proofs.Nodes.{Arrived, ReportKept, StopKept, SyncKept}
-use Rattle.node_laws.specs.Sound.{AreAmong, AreAsked, HasBatch, IsBatchAt, IsHeld, IsSound, IsStated}
+use Rattle.state_transfer.specs.declared.fetch.Fetch.{Fetch}
+use Rattle.node_laws.proofs.Nodes.{Arrived, DecisionKept, MarkKept, OfferKept, PlanKept, ReportKept, StopKept, SyncKept}
+use Rattle.node_laws.specs.Sound.{AreAmong, AreAsked, HasBatch, IsBatchAt, IsHeld, IsPast, IsSound, IsStated}
 use Rattle.smart_messages.specs.declared.message.Message.TheVariants as changes
 use Rattle.agreement_laws.specs.Statements as says
 use Rattle.agreement_laws.proofs.Lists.{each_among}
@@ -45,6 +48,12 @@ module _ (stated more : List Statement) (grows_to : AreAmong stated more) where
     choice_is = is.choice_is;
   }
 
+  taken_more : (secret : List ℕ) (view : View) (i : Installation) → IsTaken secret view stated i → IsTaken secret view more i
+  taken_more secret view i is = record {
+    holds = is.holds;
+    drawn = each-weaken (λ m. Among (says.Marked m) stated) (λ m. Among (says.Marked m) more) (λ m there. among_more (says.Marked m) there) i.marks is.drawn;
+  }
+
   pub backed_more : (secret : List ℕ) (view : View) (e : LogEntry) → IsBacked secret digest_of view stated e → IsBacked secret digest_of view more e
   backed_more secret view (Opened o) is = tt
   backed_more secret view (Wrote w) is = tt
@@ -52,7 +61,7 @@ module _ (stated more : List Statement) (grows_to : AreAmong stated more) where
   backed_more secret view (Promised p) is = tt
   backed_more secret view (Synced s) is = λ of some. chosen_more secret view s (is of some)
   backed_more secret view (Decided d) is = λ of. drawn_more secret view _ d.accepts (is of)
-  backed_more secret view (Installed i) is = tt
+  backed_more secret view (Installed i) is = λ of. taken_more secret view i (is of)
   backed_more secret view (Marked m) is = tt
 
   asked_more : (secret : List ℕ) (batch : Batch) → AreAsked secret stated batch → AreAsked secret more batch
@@ -80,6 +89,14 @@ module _ (stated more : List Statement) (grows_to : AreAmong stated more) where
         (λ s is. ⊎_elim (λ there. inl (among_more s there)) (λ own. inr own) is) (statements secret h.message) is.shown;
   }
 
+  plan_more : (secret : List ℕ) (view : View) (planned : Option Fetch) → PlanKept secret stated view planned → PlanKept secret more view planned
+  plan_more secret view None is = tt
+  plan_more secret view (Some f) is = record {
+    of_view = is.of_view;
+    certified = is.certified;
+    drawn = each-weaken (λ m. Among (says.Marked m) stated) (λ m. Among (says.Marked m) more) (λ m there. among_more (says.Marked m) there) f.plan.marks is.drawn;
+  }
+
   pub sound_more : {S : Type 0} (view : View) (n : Node S) → IsSound stated view n → IsSound more view n
   sound_more view n is = record {
     views = is.views;
@@ -98,6 +115,17 @@ module _ (stated more : List Statement) (grows_to : AreAmong stated more) where
     stops = each-weaken (StopKept n.secret stated view) (StopKept n.secret more view) (λ s k. (k.0, areamong_more (statements n.secret (changes.Stop s)) k.1)) n.stops is.stops;
     reports = each-weaken (ReportKept n stated view) (ReportKept n more view) (λ r k. (k.0, areamong_more (statements n.secret (changes.StopData r)) k.1)) n.reports is.reports;
     syncs = each-weaken (SyncKept n stated view) (SyncKept n more view) (λ s k. (k.0, areamong_more (statements n.secret (changes.Sync s)) k.1)) n.syncs is.syncs;
+    decisions = each-weaken (DecisionKept n.secret stated view) (DecisionKept n.secret more view) (λ d k. (areamong_more (statements n.secret (changes.Decision d)) k.0, k.1)) n.decisions is.decisions;
+    offers = each-weaken (OfferKept n.secret stated) (OfferKept n.secret more) (λ o k. (areamong_more (statements n.secret (changes.StateOffer o)) k.0, k.1)) n.offers is.offers;
+    marked = each-weaken (MarkKept n.secret stated view) (MarkKept n.secret more view) (λ k kept. (kept.0, areamong_more (statements n.secret (changes.Mark k)) kept.1)) n.marks is.marked;
+    fetch = plan_more n.secret view n.fetch is.fetch;
     pool = asked_more n.secret n.pool is.pool;
     held = each-weaken (IsHeld n.secret n.id stated n.entries) (IsHeld n.secret n.id more n.entries) (held_more n.secret n.id n.entries) n.held is.held;
+    late = record {
+      few = is.late.few;
+      each = each-weaken (λ (h : Held). Each (λ s. Among s stated ⊎ IsPast view.number (take n.restored n.entries) s) (statements n.secret h.message))
+          (λ (h : Held). Each (λ s. Among s more ⊎ IsPast view.number (take n.restored n.entries) s) (statements n.secret h.message))
+          (λ h late. each-weaken (λ s. Among s stated ⊎ IsPast view.number (take n.restored n.entries) s) (λ s. Among s more ⊎ IsPast view.number (take n.restored n.entries) s)
+          (λ s is. ⊎_elim (λ there. inl (among_more s there)) (λ past. inr past) is) (statements n.secret h.message) late) n.held is.late.each;
+    };
   }

@@ -1,5 +1,5 @@
 -- A node stays sound where it changes in part.
-use Rattle.std.proofs.Common.{Bool, List, None, Option, ap, arith, length, max, subst, sym, true, ℕ, ◌≡◌, ◌⊎◌, ◌++◌, ◌∷◌, [], ◌∙◌}
+use Rattle.std.proofs.Common.{Bool, List, None, Option, ap, arith, length, max, subst, sym, take, true, ℕ, ◌≡◌, ◌⊎◌, ◌+◌, ◌++◌, ◌∷◌, [], ◌∙◌}
 use Rattle.std.proofs.lemmas.List.{take_all}
 use Rattle.std.specs.Prelude.{IfSome}
 use Rattle.replica_rules.specs.Seals.{digest_of, is_verified}
@@ -7,7 +7,7 @@ use Rattle.agreement_laws.specs.Certificates.{IsBacked}
 use Rattle.agreement_laws.specs.Diaries.{HasReached, IsShown}
 use Rattle.agreement_laws.specs.Statements.{Statement, signer_of, statements}
 use Rattle.node_rules.specs.Arrivals.{is_collect, is_proven}
-use Rattle.node_rules.specs.Nodes.{Node, decided_place, holding, next_place, recording, regency_in, regency_of, view_of}
+use Rattle.node_rules.specs.Nodes.{Node, decided_place, greatest_regency, holding, next_place, recording, regency_in, regency_of, view_of}
 use Rattle.node_rules.specs.declared.node.Held.{Held}
 use Rattle.node_rules.specs.declared.node.Target.{Target}
 use Rattle.smart_service.specs.Tables.{kept_in}
@@ -17,7 +17,10 @@ use Rattle.smart_base.specs.declared.party.Party.TheVariants.{Member}
 use Rattle.smart_statements.specs.Forms.{SignedBy}
 use Rattle.smart_statements.specs.Batches.{Batch}
 use Rattle.smart_messages.specs.Regencies.{stops, syncs}
-use Rattle.smart_statements.specs.Reports.{reports}
+use Rattle.smart_statements.specs.Reports.{reports, marks}
+use Rattle.transfer_form.specs.declared.transfer.ProvenBatch.{ProvenBatch}
+use Rattle.transfer_form.specs.declared.transfer.StateOffer.{StateOffer}
+use Rattle.state_transfer.specs.declared.fetch.Fetch.{Fetch}
 use Rattle.smart_messages.specs.declared.message.Message.{Message}
 use Rattle.smart_statements.specs.declared.report.Mark.{Mark}
 use Rattle.smart_messages.specs.declared.regency.Reported.{Reported}
@@ -31,8 +34,8 @@ use Rattle.vote_book.proofs.Tidy.{grows_tidy}
 use Rattle.vote_book.specs.Books.{Admits, Among, last_made, latest_made, number_or, place_made}
 use Rattle.vote_book.specs.Tidy.{IsTidyAfter}
 use Rattle.vote_book.specs.declared.entry.LogEntry.{LogEntry}
-use Rattle.node_laws.proofs.Books.{begun_push, decided_push, held_push, least_decided, ranged_push, reached_push, within_at, within_push}
-use Rattle.node_laws.specs.Sound.{AreAsked, HasBatch, HasDecided, IsHeld, IsKept, IsMembers, IsSound, IsStated, IsWithin, place_if}
+use Rattle.node_laws.proofs.Books.{begun_push, decided_push, held_push, late_push, least_decided, ranged_push, reached_push, within_at, within_more, within_push}
+use Rattle.node_laws.specs.Sound.{AreAsked, AreLate, HasBatch, HasDecided, IsHeld, IsKept, IsMembers, IsPast, IsPlanned, IsShownIn, IsSound, IsStated, IsWithin, place_if}
 use Rattle.smart_messages.specs.declared.message.Message.TheVariants as changes
 use Rattle.agreement_laws.proofs.Lists.{each_end}
 use Rattle.smart_base.proofs.ViewFacts.{each-weaken}
@@ -53,13 +56,25 @@ abbrev pub SyncKept : {S : Type 0} → Node S → List Statement → View → Si
 SyncKept n stated view s =
     (s.statement.view ≡ view.number → IsMembers view (is_verified syncs n.secret s) s.signer × (is_collect n s.statement ≡ true)) × IsStated n.secret stated (changes.Sync s)
 
+abbrev pub DecisionKept : List ℕ → List Statement → View → ProvenBatch → Type 0
+DecisionKept secret stated view d = IsStated secret stated (changes.Decision d) × IsShownIn secret view d
+
+abbrev pub OfferKept : List ℕ → List Statement → StateOffer → Type 0
+OfferKept secret stated o = IsStated secret stated (changes.StateOffer o) × Each (λ m. is_verified marks secret m ≡ true) o.marks
+
+abbrev pub MarkKept : List ℕ → List Statement → View → SignedBy Mark → Type 0
+MarkKept secret stated view m = IsMembers view (is_verified marks secret m) m.signer × IsStated secret stated (changes.Mark m)
+
+abbrev pub PlanKept : List ℕ → List Statement → View → Option Fetch → Type 0
+PlanKept secret stated view fetch = IfSome fetch (λ f. IsPlanned secret view stated f.plan)
+
 -- ---- what is held, and what the law says nothing of
 
 pub aside : {S : Type 0} (stated : List Statement) (view : View) (n : Node S) (firm : ℕ) (held : List Held) (proposed : List Slot) (stop_made sync_made impatient behind : Bool)
-    → IsSound stated view n → Each (IsHeld n.secret n.id stated n.entries) held
+    → IsSound stated view n → Each (IsHeld n.secret n.id stated n.entries) held → AreLate n.secret stated view.number n.restored n.entries held
     → IsSound stated view (record n { firm = firm; held = held; proposed = proposed; stop_made = stop_made; sync_made = sync_made; impatient = impatient; behind = behind })
 unfolding regency_of is_proven is_collect
-aside stated view n firm held proposed stop_made sync_made impatient behind is shown = record {
+aside stated view n firm held proposed stop_made sync_made impatient behind is shown late = record {
   views = is.views;
   begun = is.begun;
   lawful = is.lawful;
@@ -76,13 +91,22 @@ aside stated view n firm held proposed stop_made sync_made impatient behind is s
   stops = is.stops;
   reports = is.reports;
   syncs = is.syncs;
+  decisions = is.decisions;
+  offers = is.offers;
+  marked = is.marked;
+  fetch = is.fetch;
   pool = is.pool;
   held = shown;
+  late = late;
 }
 
 -- a message is held: each statement in it has been stated, or is the member's own and shown by the entries so far
 abbrev pub Shows : {S : Type 0} → List Statement → Node S → Statement → Type 0
 Shows stated n s = Among s stated ⊎ ((signer_of s ≡ Member n.id) × IsShown digest_of n.entries s)
+
+-- a statement of a message that is held: it has been stated, or is no report of a regency that a restored entry promises
+abbrev pub Late : {S : Type 0} → List Statement → View → Node S → Statement → Type 0
+Late stated view n s = Among s stated ⊎ IsPast view.number (take n.restored n.entries) s
 
 pub held_now : {S : Type 0} (stated : List Statement) (n : Node S) (to : Target) (m : Message) → Each (Shows stated n) (statements n.secret m)
     → IsHeld n.secret n.id stated n.entries (record { to = to; message = m; needs = length n.entries })
@@ -93,11 +117,13 @@ held_now stated n to m shown = record {
 }
 
 pub holds : {S : Type 0} (stated : List Statement) (view : View) (n : Node S) (to : Target) (m : Message) → IsSound stated view n → Each (Shows stated n) (statements n.secret m)
+    → Each (Late stated view n) (statements n.secret m)
     → IsSound stated view (holding n to m)
-holds stated view n to m is shown =
+holds stated view n to m is shown late =
     let h : Held = record { to = to; message = m; needs = length n.entries } in
     aside stated view n n.firm (n.held ++ h ∷ []) n.proposed n.stop_made n.sync_made n.impatient n.behind is
     (each_end (IsHeld n.secret n.id stated n.entries) n.held h is.held (held_now stated n to m shown))
+    (record { few = is.late.few; each = each_end (λ (x : Held). Each (Late stated view n) (statements n.secret x.message)) n.held h is.late.each late })
 
 -- ---- what comes
 
@@ -124,15 +150,21 @@ keeps stated view n pool arrivals ss rs ys behind is asked kept_arrivals kept_st
   stops = kept_stops;
   reports = kept_reports;
   syncs = kept_syncs;
+  decisions = is.decisions;
+  offers = is.offers;
+  marked = is.marked;
+  fetch = is.fetch;
   pool = asked;
   held = is.held;
+  late = is.late;
 }
 
--- other marks
-pub with_marks : {S : Type 0} (stated : List Statement) (view : View) (n : Node S) (table : List (SignedBy Mark)) (behind : Bool) → IsSound stated view n
-    → IsSound stated view (record n { marks = table; behind = behind })
+-- other decisions that were shown, offers, marks and another plan
+pub transfers : {S : Type 0} (stated : List Statement) (view : View) (n : Node S) (shown : List ProvenBatch) (offered : List StateOffer) (table : List (SignedBy Mark)) (planned : Option Fetch)
+    (behind : Bool) → IsSound stated view n → Each (DecisionKept n.secret stated view) shown → Each (OfferKept n.secret stated) offered → Each (MarkKept n.secret stated view) table
+    → PlanKept n.secret stated view planned → IsSound stated view (record n { decisions = shown; offers = offered; marks = table; fetch = planned; behind = behind })
 unfolding regency_of is_proven is_collect
-with_marks stated view n table behind is = record {
+transfers stated view n shown offered table planned behind is kept_shown kept_offered kept_table kept_plan = record {
   views = is.views;
   begun = is.begun;
   lawful = is.lawful;
@@ -149,15 +181,20 @@ with_marks stated view n table behind is = record {
   stops = is.stops;
   reports = is.reports;
   syncs = is.syncs;
+  decisions = kept_shown;
+  offers = kept_offered;
+  marked = kept_table;
+  fetch = kept_plan;
   pool = is.pool;
   held = is.held;
+  late = is.late;
 }
 
 -- ---- entries
 
 -- an entry that may be pushed, whatever it makes
 pub record MayPush {S : Type 0} (stated : List Statement) (view : View) (n : Node S) (e : LogEntry) : Type 0 where
-  pub admits : Admits 0 0 n.entries e
+  pub admits : Admits n.opening n.restored n.entries e
   pub tidy : IsTidyAfter n.entries e
   pub within : IsWithin view (next_place n) (max (regency_of n) (regency_in (view_of n).number e)) e
   pub backed : IsBacked n.secret digest_of view stated e
@@ -175,14 +212,16 @@ unfolding regency_of is_proven is_collect
 pushes stated view n e waiting is may made = record {
   views = is.views;
   begun = begun_push n.entries e is.begun;
-  lawful = grows 0 0 n.entries e is.lawful may.admits;
+  lawful = grows n.opening n.restored n.entries e is.lawful may.admits;
   tidy = grows_tidy n.entries e is.tidy may.tidy;
   last = made.last;
   latest = made.latest;
   within = within_push view (view_of n).number (next_place n) n.entries e is.within may.within;
-  ranged = ranged_push view n.entries e is.ranged
+  ranged = ranged_push n.opening view n.entries e is.ranged
+      (within_more view (last_made n.entries + 1) (greatest_regency view.number (n.entries ++ e ∷ [])) (max n.opening (last_made n.entries) + 1)
+      (greatest_regency view.number (n.entries ++ e ∷ [])) e (omega arith) (omega arith)
       (within_at view (view_of n).number (next_place n) n.entries e (ap (λ (vs : List View). (present vs).number) is.views)
-      (let last = is.last in let least = least_decided n.waiting n.replica.place in omega (arith, last, least)) may.within);
+      (let last = is.last in let least = least_decided n.waiting n.replica.place in omega (arith, last, least)) may.within));
   backed = each_end (IsBacked n.secret digest_of view stated) n.entries e is.backed may.backed;
   batches = each_end (HasBatch n.secret stated) n.entries e is.batches may.batch;
   waiting = made.waiting;
@@ -192,9 +231,14 @@ pushes stated view n e waiting is may made = record {
   stops = is.stops;
   reports = is.reports;
   syncs = is.syncs;
+  decisions = is.decisions;
+  offers = is.offers;
+  marked = is.marked;
+  fetch = is.fetch;
   pool = is.pool;
   held = each-weaken (IsHeld n.secret n.id stated n.entries) (IsHeld n.secret n.id stated (n.entries ++ e ∷ []))
       (λ h shown. held_push n.secret n.id stated n.entries e h shown) n.held is.held;
+  late = late_push n.secret stated view.number n.restored n.entries e n.held is.late;
 }
 
 -- an entry that makes no place

@@ -1,8 +1,9 @@
 -- A node stays sound, whatever comes to it.
-use Rattle.std.proofs.Common.{Err, List, Ok, Result, arith, false, nat_le, refl, true, ℕ, ◌≡◌, [], ◌∷◌}
-use Rattle.agreement_laws.specs.Statements.{Statement}
+use Rattle.std.proofs.Common.{Err, List, Ok, Result, arith, false, is_some, nat_le, refl, true, ℕ, ◌≡◌, [], ◌∷◌}
+use Rattle.agreement_laws.specs.Statements.{Statement, statements}
 use Rattle.node_rules.specs.Nodes.{Node, recording}
 use Rattle.node_rules.specs.Reopening.{stopped}
+use Rattle.node_rules.specs.Rules.{delivers}
 use Rattle.node_rules.specs.Steps.{opened, outset, released, staying, step_of, takes_in}
 use Rattle.node_rules.specs.declared.node.Held.{Held}
 use Rattle.smart_base.specs.Lists.{Each}
@@ -21,14 +22,17 @@ use Rattle.node_laws.proofs.Arriving.{sound_kept, sound_noted}
 use Rattle.node_laws.proofs.Books.{none_ranged, ranged_push}
 use Rattle.node_laws.proofs.Deciding.{sound_decides}
 use Rattle.node_laws.proofs.Delivering.{sound_answers_again, sound_delivers}
+use Rattle.node_laws.proofs.Installing.{sound_answers_state, sound_installs, sound_plans}
+use Rattle.node_rules.specs.Transfers.{installs}
 use Rattle.node_laws.proofs.Leading.{sound_joins, sound_leads, sound_times}
-use Rattle.node_laws.proofs.Nodes.{aside}
+use Rattle.node_laws.proofs.Marking.{sound_mark}
+use Rattle.node_laws.proofs.Nodes.{Late, aside}
 use Rattle.node_laws.proofs.Promising.{sound_promises}
 use Rattle.node_laws.proofs.Proposing.{sound_proposes}
 use Rattle.node_laws.proofs.Voting.{sound_accepts, sound_writes}
 use Rattle.node_laws.specs.Sound.{IsHeld, IsSound, IsStated, IsStatedEvent}
 use Rattle.agreement_laws.proofs.Lists.{either}
-use Rattle.node_rules.proofs.Rulewise.{KeptByRules, ForRead, ForEvent, takes_in_as, keeps_from}
+use Rattle.node_rules.proofs.Rulewise.{KeptByRules, ForRead, ForEvent, by_mark, takes_in_as, keeps_from}
 
 sound_rules : {S : Type 0} (stated : List Statement) (view : View) → is_view view ≡ true → KeptByRules {S = S} (λ n. IsSound stated view n)
 sound_rules stated view viewed = record {
@@ -42,14 +46,16 @@ sound_rules stated view viewed = record {
   by_decides = λ n is. sound_decides stated view n viewed is;
   by_times = λ n is. sound_times stated view n is;
   by_answers = λ n asked is. sound_answers_again stated view n asked is;
+  by_states = λ n a is. sound_answers_state stated view n a is;
+  by_plans = λ n is. sound_plans stated view n viewed is;
 }
 
-sound_takes_in : {S : Type 0} (stated : List Statement) (view : View) (n : Node S) (event : NodeEvent) → IsSound stated view n
+pub sound_takes_in : {S : Type 0} (stated : List Statement) (view : View) (n : Node S) (event : NodeEvent) → IsSound stated view n
     → IsStatedEvent n.secret stated event → IsSound stated view (takes_in n event).node
 sound_takes_in {S} stated view n event is was =
     takes_in_as (λ (x : Node S). IsSound stated view x) (IsStated n.secret stated) n event (λ message. sound_noted stated view n message is)
     (λ message none came. sound_kept stated view n message is none came)
-    (λ count. aside stated view n count n.held n.proposed n.stop_made n.sync_made n.impatient n.behind is is.held) (stated_event event was) is
+    (λ count. aside stated view n count n.held n.proposed n.stop_made n.sync_made n.impatient n.behind is is.held is.late) (stated_event event was) is
   where
     stated_read : (read : Result Message ℕ) → ((m : Message) → read ≡ Ok m → IsStated n.secret stated m) → ForRead (IsStated n.secret stated) read
     stated_read (Ok m) was = was m refl
@@ -65,7 +71,11 @@ pub sound_step : {S : Type 0} (m : Meaning S) (stated : List Statement) (view : 
     → IsStatedEvent n.secret stated event → IsSound stated view (step_of m n event).node
 sound_step {S = S} m stated view n event viewed is was =
     let taken : IsSound stated view (takes_in n event).node = sound_takes_in stated view n event is was in
-    keeps_from m (λ (x : Node S). IsSound stated view x) n event (sound_rules stated view viewed) taken (sound_delivers m stated view (takes_in n event).node taken)
+    let t : Node S = installs m (takes_in n event).node in
+    let installed : IsSound stated view t = sound_installs m stated view (takes_in n event).node taken in
+    let delivered : IsSound stated view (delivers m t) = sound_delivers m stated view t installed in
+    keeps_from m (λ (x : Node S). IsSound stated view x) n event (sound_rules stated view viewed) taken installed
+    (by_mark m (λ (x : Node S). IsSound stated view x) (is_some t.waiting) (delivers m t) delivered (λ due. sound_mark m stated view (delivers m t) delivered))
 
 -- ---- messages that leave, and the beginning
 
@@ -77,6 +87,7 @@ pub sound_released : {S : Type 0} (stated : List Statement) (view : View) (n : N
 sound_released stated view n is =
     aside stated view n n.firm (staying n.firm n.held) n.proposed n.stop_made n.sync_made n.impatient n.behind is
     (each_staying (IsHeld n.secret n.id stated n.entries) n.firm n.held is.held)
+    (record { few = is.late.few; each = each_staying (λ (h : Held). Each (Late stated view n) (statements n.secret h.message)) n.firm n.held is.late.each })
 
 -- the node whose book is its opening alone
 pub sound_begun : {S : Type 0} (m : Meaning S) (stated : List Statement) (secret : List ℕ) (id : ℕ) (view : View) (period : ℕ) (o : Opening)
@@ -89,7 +100,7 @@ sound_begun m stated secret id view period o = record {
   last = omega arith;
   latest = refl;
   within = (tt, tt);
-  ranged = ranged_push view [] (Opened o) (none_ranged view) tt;
+  ranged = ranged_push 0 view [] (Opened o) (none_ranged 0 view) tt;
   backed = (tt, tt);
   batches = (tt, tt);
   waiting = tt;
@@ -98,11 +109,16 @@ sound_begun m stated secret id view period o = record {
   stops = tt;
   reports = tt;
   syncs = tt;
+  decisions = tt;
+  offers = tt;
+  marked = tt;
+  fetch = tt;
   pool = tt;
   held = tt;
+  late = record { few = omega arith; each = tt };
 }
 
 pub sound_opened : {S : Type 0} (m : Meaning S) (secret : List ℕ) (id : ℕ) (view : View) (period : ℕ) → IsSound [] view (opened (outset m secret id view period))
 sound_opened m secret id view period =
     let o : Opening = record { member = id; period = period; view = view } in
-    aside [] view (recording (stopped (outset m secret id view period)) (Opened o)) 0 [] [] false false false false (sound_begun m [] secret id view period o) tt
+    aside [] view (recording (stopped (outset m secret id view period)) (Opened o)) 0 [] [] false false false false (sound_begun m [] secret id view period o) tt (record { few = omega arith; each = tt })

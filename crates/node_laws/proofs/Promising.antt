@@ -1,5 +1,6 @@
 -- A node that promises the next regency, and reports what its book has, stays sound.
-use Rattle.std.proofs.Common.{List, None, Option, Some, arith, false, inl, inr, refl, subst, sym, true, ℕ, ⊎_elim, ◌≡◌, ◌∙◌, ◌++◌, ◌∷◌, [], ◌+◌, ◌⊎◌}
+use Rattle.std.proofs.Common.{List, None, Option, Some, ap, arith, false, inl, inr, refl, subst, suc, sym, take, true, zero, ℕ, ⊎_elim, ◌≡◌, ◌≤◌, ◌<◌, ◌∙◌, ◌++◌, ◌∷◌, [], ◌+◌, ◌⊎◌}
+use Rattle.std.proofs.lemmas.List.{take-append-le}
 use Rattle.std.specs.List.{flat_map}
 use Rattle.std.specs.Prelude.{map, option_map}
 use Rattle.replica_rules.specs.Seals.{digest_of, signed}
@@ -7,7 +8,7 @@ use Rattle.agreement_laws.specs.Certificates.{IsBacked}
 use Rattle.agreement_laws.specs.Diaries.{HasReported, IsShown}
 use Rattle.agreement_laws.specs.Statements.{Statement, signer_of}
 use Rattle.node_rules.specs.Changes.{next_promise, promise_next, promises, promising, report_of, reported_by}
-use Rattle.node_rules.specs.Nodes.{Node, next_place, recording, regency_of, view_of}
+use Rattle.node_rules.specs.Nodes.{Node, greatest_regency, next_place, recording, regency_of, view_of}
 use Rattle.smart_base.specs.Lists.{Each}
 use Rattle.smart_base.specs.Views.{View, leader}
 use Rattle.smart_base.specs.declared.party.Party.TheVariants.{Member}
@@ -24,7 +25,7 @@ use Rattle.vote_book.specs.declared.entry.LogEntry.TheVariants.{Accepted, Decide
 use Rattle.node_laws.proofs.Nodes.{aside, holds}
 use Rattle.node_laws.proofs.Promised.{number_in_force, records_promise}
 use Rattle.node_laws.proofs.Stated.{batch_covers, each_verified}
-use Rattle.node_laws.specs.Sound.{HasBatch, IsSound, IsWithin}
+use Rattle.node_laws.specs.Sound.{HasBatch, IsPast, IsSound, IsWithin}
 use Rattle.smart_messages.specs.declared.message.Message.TheVariants as changes
 use Rattle.node_rules.specs.declared.node.Target.TheVariants as targets
 use Rattle.agreement_laws.specs.Statements as says
@@ -38,7 +39,7 @@ among_mapped P f xs s each there = each_among P (map f xs) s (each_map P f xs ea
 evidence_by_entry : (secret : List ℕ) (stated : List Statement) (view : View) (place regency : ℕ) (e : LogEntry) (s : Statement) → IsWithin view place regency e
     → IsBacked secret digest_of view stated e → Among s (says.parts_of_evidence (evidence_by digest_of e)) → Among s stated
 evidence_by_entry secret stated view place regency (Decided d) s within backed there = among_mapped (λ x. Among x stated) says.Voted d.accepts s (backed within.of_view).drawn there
-evidence_by_entry secret stated view place regency (Installed i) s within backed there = absurd within
+evidence_by_entry secret stated view place regency (Installed i) s within backed there = among_mapped (λ x. Among x stated) says.Marked i.marks s (backed within.of_view).drawn there
 evidence_by_entry secret stated view place regency (Opened o) s within backed there = absurd there
 evidence_by_entry secret stated view place regency (Wrote w) s within backed there = absurd there
 evidence_by_entry secret stated view place regency (Accepted a) s within backed there = absurd there
@@ -106,6 +107,54 @@ all_shown stated view n is s there ok =
     (λ batch. inl (batch_stated stated view n s (lock_of (view_of n).number n.entries) refl is batch ok))
     (among_either s (says.in_report (Own n (regency_of n + 1))) (flat_map says.within (says.requests_of (option_map (λ (a : Accept). a.batch) (lock_of (view_of n).number n.entries)))) there)
 
+-- ---- the regency that it tells is past the restored entries
+
+taken_regency : (view k : ℕ) (es : List LogEntry) → greatest_regency view (take k es) ≤ greatest_regency view es
+taken_regency view zero [] = omega arith
+taken_regency view zero (x ∷ xs) = omega arith
+taken_regency view (suc k) [] = omega arith
+taken_regency view (suc k) (x ∷ xs) = let rest = taken_regency view k xs in omega (arith, rest)
+
+past_restored : {S : Type 0} (stated : List Statement) (view : View) (n : Node S) (e : LogEntry) → IsSound stated view n → greatest_regency view.number (take n.restored (n.entries ++ e ∷ [])) < regency_of n + 1
+unfolding regency_of
+past_restored stated view n e is =
+    let few = is.late.few in
+    let same : greatest_regency view.number (take n.restored (n.entries ++ e ∷ [])) ≡ greatest_regency view.number (take n.restored n.entries) =
+    ap (λ (es : List LogEntry). greatest_regency view.number es) (take-append-le n.restored n.entries (e ∷ []) few) in
+    let least = taken_regency view.number n.restored n.entries in
+    let at : greatest_regency (view_of n).number n.entries ≡ greatest_regency view.number n.entries = ap (λ (k : ℕ). greatest_regency k n.entries) (number_in_force stated view n is) in
+    omega (arith, same, least, at)
+
+abbrev TellsLate : {S : Type 0} → List Statement → View → Node S → Statement → Type 0
+TellsLate stated view n s = Among s stated ⊎ IsPast view.number (take n.restored (n.entries ++ Promised (next_promise n) ∷ [])) s
+
+own_late : {S : Type 0} (stated : List Statement) (view : View) (n : Node S) → IsSound stated view n → TellsLate stated view n (says.Reported (Own n (regency_of n + 1)))
+unfolding report_of
+own_late stated view n is = inr (past_restored stated view n (Promised (next_promise n)) is)
+
+part_late : {S : Type 0} (stated : List Statement) (view : View) (n : Node S) → IsSound stated view n → (s : Statement)
+    → Among s (says.parts_of_evidence (report_of n (regency_of n + 1)).evidence ++ says.parts_of_lock (report_of n (regency_of n + 1)).lock) → TellsLate stated view n s
+unfolding report_of
+part_late stated view n is s there =
+    ⊎_elim
+    (λ evidence. inl (evidence_stated stated view n s (last_maker n.entries) refl is evidence))
+    (λ lock. inl (lock_stated stated view n s (lock_of (view_of n).number n.entries) refl is lock))
+    (among_either s (says.parts_of_evidence (evidence_of digest_of (last_maker n.entries))) (says.parts_of_lock (option_map certificate_of (lock_of (view_of n).number n.entries))) there)
+
+report_late : {S : Type 0} (stated : List Statement) (view : View) (n : Node S) → IsSound stated view n → (s : Statement)
+    → Among s (says.in_report (Own n (regency_of n + 1))) → TellsLate stated view n s
+report_late stated view n is s (inl same) = subst (λ (x : Statement). TellsLate stated view n x) (sym same) (own_late stated view n is)
+report_late stated view n is s (inr there) = part_late stated view n is s there
+
+all_late : {S : Type 0} (stated : List Statement) (view : View) (n : Node S) → IsSound stated view n → (s : Statement)
+    → Among s (flat_map says.within (says.said (changes.StopData (reported_by n (regency_of n + 1))))) → says.verifies n.secret s ≡ true → TellsLate stated view n s
+unfolding reported_by
+all_late stated view n is s there ok =
+    ⊎_elim
+    (λ report. report_late stated view n is s report)
+    (λ batch. inl (batch_stated stated view n s (lock_of (view_of n).number n.entries) refl is batch ok))
+    (among_either s (says.in_report (Own n (regency_of n + 1))) (flat_map says.within (says.requests_of (option_map (λ (a : Accept). a.batch) (lock_of (view_of n).number n.entries)))) there)
+
 -- ---- promise
 
 sound_promise : {S : Type 0} (stated : List Statement) (view : View) (n : Node S) → IsSound stated view n → IsSound stated view (promise_next n)
@@ -113,10 +162,11 @@ unfolding promise_next reported_by
 sound_promise {S = S} stated view n is =
     let pushed : IsSound stated view (recording n (Promised (next_promise n))) = records_promise stated view n (next_promise n) is refl (omega arith) in
     let m : Node S = record (recording n (Promised (next_promise n))) { stop_made = false; sync_made = false; impatient = true } in
-    let marked : IsSound stated view m = aside stated view (recording n (Promised (next_promise n))) n.firm n.held n.proposed false false true n.behind pushed pushed.held in
+    let marked : IsSound stated view m = aside stated view (recording n (Promised (next_promise n))) n.firm n.held n.proposed false false true n.behind pushed pushed.held pushed.late in
     let message : Message = (changes.StopData (reported_by n (regency_of n + 1))) in
     holds stated view m (targets.Node (leader (view_of n) (regency_of n + 1))) message marked
     (each_verified n.secret (Tells stated n) (flat_map says.within (says.said message)) (all_shown stated view n is))
+    (each_verified n.secret (TellsLate stated view n) (flat_map says.within (says.said message)) (all_late stated view n is))
 
 pub sound_promises : {S : Type 0} (stated : List Statement) (view : View) (n : Node S) → IsSound stated view n → IsSound stated view (promises n)
 unfolding promises

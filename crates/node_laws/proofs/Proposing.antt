@@ -23,7 +23,7 @@ use Rattle.smart_statements.specs.declared.statement.Request.{Request}
 use Rattle.vote_book.specs.Books.{Among}
 use Rattle.node_laws.proofs.Deciding.{named_accepted}
 use Rattle.node_laws.proofs.Lists.{each_filter_map_in, found, guard}
-use Rattle.node_laws.proofs.Nodes.{ReportKept, Shows, aside, holds}
+use Rattle.node_laws.proofs.Nodes.{Late, ReportKept, Shows, aside, holds}
 use Rattle.node_laws.proofs.Stated.{Covers, batch_covers, covers, each_verified}
 use Rattle.node_laws.specs.Sound.{AreAsked, HasBatch, IsBatchAt, IsSound, IsStated}
 use Rattle.smart_messages.specs.declared.message.Message.TheVariants as changes
@@ -127,16 +127,22 @@ proposal_shown : {S : Type 0} (stated : List Statement) (n : Node S) (p : Propos
 proposal_shown stated n p own all s (inl same) ok = subst (λ (x : Statement). Shows stated n x) (sym same) (inr (ap (λ (k : ℕ). Member k) own, tt))
 proposal_shown stated n p own all s (inr there) ok = inl (all s there ok)
 
+proposal_late : {S : Type 0} (stated : List Statement) (view : View) (n : Node S) (p : Proposed) → BatchCovers n.secret stated p.batch
+    → (s : Statement) → Among s (flat_map says.within (says.said (Propose p))) → says.verifies n.secret s ≡ true → Late stated view n s
+proposal_late stated view n p all s (inl same) ok = subst (λ (x : Statement). Late stated view n x) (sym same) (inr tt)
+proposal_late stated view n p all s (inr there) ok = inl (all s there ok)
+
 proposes_with : {S : Type 0} (stated : List Statement) (view : View) (n : Node S) (o : Option Batch) → IsSound stated view n → proposing n ≡ o → IsSound stated view (propose_batch n o)
 unfolding propose_batch
 proposes_with stated view n None is at = is
 proposes_with {S = S} stated view n (Some batch) is at =
     let m : Node S = record n { proposed = n.proposed ++ open_slot n ∷ [] } in
-    let marked : IsSound stated view m = aside stated view n n.firm n.held (n.proposed ++ open_slot n ∷ []) n.stop_made n.sync_made n.impatient n.behind is is.held in
+    let marked : IsSound stated view m = aside stated view n n.firm n.held (n.proposed ++ open_slot n ∷ []) n.stop_made n.sync_made n.impatient n.behind is is.held is.late in
     let p : Proposed = record { head = signed proposals n.secret n.id (record { slot = open_slot n; digest = digest_of batch }); batch = batch } in
     holds stated view m targets.View (Propose p) marked
     (each_verified n.secret (Shows stated m) (flat_map says.within (says.said (Propose p)))
     (proposal_shown stated m p refl (proposing_covers stated view n batch is at)))
+    (each_verified n.secret (Late stated view m) (flat_map says.within (says.said (Propose p))) (proposal_late stated view m p (proposing_covers stated view n batch is at)))
 
 pub sound_proposes : {S : Type 0} (stated : List Statement) (view : View) (n : Node S) → IsSound stated view n → IsSound stated view (proposes n)
 unfolding proposes

@@ -2,8 +2,8 @@
 use Rattle.std.proofs.Common.{Bool, List, ap, refl, true, ℕ, ◌≡◌, ◌&&◌, ◌==◌}
 use Rattle.std.proofs.lemmas.Bool.{and_from, eq-eqb, eqb-true}
 use Rattle.std.specs.Prelude.{is_none, ◌↔◌}
-use Rattle.certificates.proofs.Equal.{votes-exact}
-use Rattle.certificates.specs.Certificates.{accept_of, votes_fault, write_of}
+use Rattle.certificates.proofs.Equal.{votes-exact, marks-exact}
+use Rattle.certificates.specs.Certificates.{accept_of, marks_fault, votes_fault, write_of}
 use Rattle.node_rules.specs.Arrivals.{is_batch_for}
 use Rattle.node_rules.specs.Reopening.{rests}
 use Rattle.replica_rules.specs.Seals.{digest_of}
@@ -43,7 +43,12 @@ certified secret view (Decided d) is =
       accepts = (votes-exact secret view (accept_of d.slot (digest_of d.batch)) d.accepts).0 (none_is (votes_fault secret view (accept_of d.slot (digest_of d.batch)) d.accepts) parts.1);
       batch = parts.2;
     }
-certified secret view (Installed i) is = absurd (cc)
+certified secret view (Installed i) is =
+    let parts = and_true (i.view == view.number) (is_none (marks_fault secret view i.place i.digest i.marks)) is in
+    record {
+      of_view = eqb-true i.view view.number parts.0;
+      marks = (marks-exact secret view i.place i.digest i.marks).0 (none_is (marks_fault secret view i.place i.digest i.marks) parts.1);
+    }
 certified secret view (Marked m) is = tt
 
 pub resting : (secret : List ℕ) (view : View) (e : LogEntry) → IsCertified secret view e → rests secret view e ≡ true
@@ -58,7 +63,9 @@ resting secret view (Decided d) has =
     all_three (d.slot.view == view.number) (is_none (votes_fault secret view (accept_of d.slot (digest_of d.batch)) d.accepts))
     (is_batch_for secret d.slot.place (digest_of d.batch) d.batch)
     (eq-eqb d.slot.view view.number has.of_view) (ap is_none ((votes-exact secret view (accept_of d.slot (digest_of d.batch)) d.accepts).1 has.accepts)) has.batch
-resting secret view (Installed i) has = absurd has
+resting secret view (Installed i) has =
+    and_from (i.view == view.number) (is_none (marks_fault secret view i.place i.digest i.marks)) (eq-eqb i.view view.number has.of_view)
+    (ap is_none ((marks-exact secret view i.place i.digest i.marks).1 has.marks))
 resting secret view (Marked m) has = refl
 
 pub certified_exact : (secret : List ℕ) (view : View) (e : LogEntry) → (rests secret view e ≡ true) ↔ IsCertified secret view e

@@ -1,5 +1,5 @@
 -- What a book shows without its node: a sound node's book does, each front of it, and where more has been stated.
-use Rattle.std.proofs.Common.{Bool, List, None, Option, Some, ap, append-nil, cond, drop, false, inl, inr, length, nat_lt, refl, subst, suc, sym, take, zero, ℕ, ⊎_elim, ◌≡◌, ◌⊎◌, ◌<◌, ◌∙◌, ◌++◌, ◌∷◌, [], append_assoc}
+use Rattle.std.proofs.Common.{Bool, List, None, Some, ap, append-nil, arith, cond, drop, false, inl, inr, length, max, nat_lt, refl, subst, suc, sym, take, zero, ℕ, ⊎_elim, ◌≡◌, ◌⊎◌, ◌<◌, ◌∙◌, ◌+◌, ◌++◌, ◌∷◌, [], append_assoc}
 use Rattle.std.proofs.lemmas.Bool.{lt-ltb}
 use Rattle.std.proofs.lemmas.List.Elements.{filter_map-append}
 use Rattle.std.specs.List.{cons_option}
@@ -8,25 +8,40 @@ use Rattle.std.proofs.Math.Seq.{take-append_seam}
 use Rattle.replica_rules.specs.Seals.{digest_of}
 use Rattle.agreement_laws.specs.Certificates.{IsBacked}
 use Rattle.agreement_laws.specs.Statements.{Statement}
-use Rattle.node_rules.specs.Nodes.{Node}
+use Rattle.node_rules.specs.Nodes.{Node, greatest_regency}
 use Rattle.node_rules.specs.Reopening.{batch_past, decided_of}
 use Rattle.agreement_laws.specs.Fronts.{IsFront}
 use Rattle.smart_statements.specs.Batches.{Batch}
 use Rattle.vote_book.specs.declared.entry.Decision.{Decision}
 use Rattle.vote_book.specs.declared.entry.LogEntry.TheVariants.{Decided}
 use Rattle.smart_base.specs.Views.{View}
+use Rattle.vote_book.proofs.Growth.{recounts}
 use Rattle.vote_book.proofs.Tidy.{front_lawful, front_tidy}
-use Rattle.vote_book.specs.Books.{Lawful}
+use Rattle.vote_book.specs.Books.{Lawful, last_made}
 use Rattle.vote_book.specs.Tidy.{IsTidy}
 use Rattle.vote_book.specs.declared.entry.LogEntry.{LogEntry}
+use Rattle.node_laws.proofs.Books.{within_more}
 use Rattle.node_laws.proofs.More.{backed_more, has_more}
 use Rattle.node_laws.specs.Restored.{IsSoundBook}
-use Rattle.node_laws.specs.Sound.{AreAmong, AreRanged, HasBatch, IsBegun, IsSound}
+use Rattle.node_laws.specs.Sound.{AreAmong, AreRanged, AreRangedPast, HasBatch, IsBegun, IsSound}
 use Rattle.agreement_laws.proofs.Lists.{each_take}
 use Rattle.smart_base.proofs.ViewFacts.{each-weaken}
 
-pub book_sound : {S : Type 0} (stated : List Statement) (view : View) (n : Node S) → IsSound stated view n → IsSoundBook n.secret stated view n.entries
-book_sound stated view n is = record { begun = inr is.begun; lawful = is.lawful; tidy = is.tidy; ranged = is.ranged; backed = is.backed; batches = is.batches }
+ranged_first : (view : View) (opening : ℕ) (entries : List LogEntry) → opening ≡ 0 → AreRangedPast opening view entries → AreRanged view entries
+ranged_first view opening entries first ranged before e after split =
+    within_more view (max opening (last_made before) + 1) (greatest_regency view.number (before ++ e ∷ [])) (last_made before + 1) (greatest_regency view.number (before ++ e ∷ [])) e
+    (omega (arith, first)) (omega arith) (ranged before e after split)
+
+-- a node that began with the empty replica
+pub book_sound : {S : Type 0} (stated : List Statement) (view : View) (n : Node S) → IsSound stated view n → n.opening ≡ 0 → IsSoundBook n.secret stated view n.entries
+book_sound stated view n is first = record {
+  begun = inr is.begun;
+  lawful = subst (λ (k : ℕ). Lawful k 0 n.entries) first (recounts n.opening n.restored 0 n.entries (λ k within less. absurd (omega (arith, less))) is.lawful);
+  tidy = is.tidy;
+  ranged = ranged_first view n.opening n.entries first is.ranged;
+  backed = is.backed;
+  batches = is.batches;
+}
 
 -- ---- fronts
 

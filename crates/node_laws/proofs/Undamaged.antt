@@ -13,12 +13,14 @@ use Rattle.smart_base.specs.Lists.{Each}
 use Rattle.smart_base.specs.Views.{View}
 use Rattle.smart_statements.specs.declared.statement.Slot.{Slot}
 use Rattle.vote_book.proofs.Entries.{spelling_is}
-use Rattle.vote_book.specs.Books.{Admits, Among, Lawful, last_made}
+use Rattle.vote_book.specs.Books.{Among, Lawful, last_made}
 use Rattle.vote_book.specs.Entries.{FitsEntry, entry_decoded, entry_text}
 use Rattle.vote_book.specs.declared.entry.LogEntry.{LogEntry}
 use Rattle.vote_book.specs.declared.entry.LogEntry.TheVariants.{Accepted, Decided, Installed, Marked, Opened, Promised, Synced, Wrote}
 use Rattle.node_laws.proofs.Damage.{back, one_read}
 use Rattle.node_laws.proofs.Resting.{resting}
+use Rattle.book_laws.specs.BookCuts.{InstallUpTo}
+use Rattle.book_laws.proofs.CutLawful.{cut_lawful}
 use Rattle.node_laws.specs.Restored.{IsSoundBook}
 use Rattle.node_laws.specs.Sound.{HasBatch, IsWithin}
 use Rattle.agreement_laws.proofs.Lists.{among_right, each_among}
@@ -48,10 +50,10 @@ entry_rests secret stated view place regency (Decided d) within backed has =
       accepts = subst (λ (s : Slot). IsCertificate secret view (accept_of s (digest_of d.batch)) d.accepts) (slot_of_view view d.slot of) (backed of).holds;
       batch = has.may;
     })
-entry_rests secret stated view place regency (Installed i) within backed has = absurd within
+entry_rests secret stated view place regency (Installed i) within backed has = resting secret view (Installed i) (record { of_view = within.of_view; marks = (backed within.of_view).holds })
 entry_rests secret stated view place regency (Marked k) within backed has = refl
 
-all_rest : (secret : List ℕ) (stated : List Statement) (view : View) (before entries : List LogEntry) → IsSoundBook secret stated view (before ++ entries)
+pub all_rest : (secret : List ℕ) (stated : List Statement) (view : View) (before entries : List LogEntry) → IsSoundBook secret stated view (before ++ entries)
     → Each (λ e. rests secret view e ≡ true) entries
 all_rest secret stated view before [] book = tt
 all_rest secret stated view before (e ∷ es) book =
@@ -61,27 +63,14 @@ all_rest secret stated view before (e ∷ es) book =
       all_rest secret stated view (before ++ e ∷ []) es (subst (λ (xs : List LogEntry). IsSoundBook secret stated view xs) (sym (append_assoc before (e ∷ []) es)) book),
     )
 
--- ---- an entry may be restored behind those before it
+-- ---- an entry may be restored behind those before it, if none installs a place
 
--- how many are restored is asked of installations alone
-restored_alike : (view : View) (place regency restored : ℕ) (before : List LogEntry) (e : LogEntry) → IsWithin view place regency e → Admits 0 0 before e → Admits 0 restored before e
-restored_alike view place regency restored before (Opened o) within may = may
-restored_alike view place regency restored before (Wrote w) within may = may
-restored_alike view place regency restored before (Accepted a) within may = may
-restored_alike view place regency restored before (Promised p) within may = may
-restored_alike view place regency restored before (Synced s) within may = may
-restored_alike view place regency restored before (Decided d) within may = may
-restored_alike view place regency restored before (Installed i) within may = absurd within
-restored_alike view place regency restored before (Marked k) within may = may
+all_restored : (secret : List ℕ) (stated : List Statement) (view : View) (entries : List LogEntry) → IsSoundBook secret stated view entries → InstallUpTo 0 entries → Lawful 0 (length entries) entries
+all_restored secret stated view entries book none = cut_lawful 0 (length entries) entries book.lawful book.tidy none
 
-all_restored : (secret : List ℕ) (stated : List Statement) (view : View) (entries : List LogEntry) → IsSoundBook secret stated view entries → Lawful 0 (length entries) entries
-all_restored secret stated view entries book before e after split =
-    restored_alike view (last_made before + 1) (greatest_regency view.number (before ++ e ∷ [])) (length entries) before e (book.ranged before e after split)
-    (book.lawful before e after split)
-
-pub undamaged : (secret : List ℕ) (stated : List Statement) (view : View) (entries : List LogEntry) → IsSoundBook secret stated view entries → Each FitsEntry entries
+pub undamaged : (secret : List ℕ) (stated : List Statement) (view : View) (entries : List LogEntry) → IsSoundBook secret stated view entries → InstallUpTo 0 entries → Each FitsEntry entries
     → damaged secret 0 view (map entry_text entries) ≡ None
-undamaged secret stated view entries book fit = back secret 0 view entries fit book.begun (all_restored secret stated view entries book) (all_rest secret stated view [] entries book)
+undamaged secret stated view entries book none fit = back secret 0 view entries fit book.begun (all_restored secret stated view entries book none) (all_rest secret stated view [] entries book)
 
 -- ---- what is read
 

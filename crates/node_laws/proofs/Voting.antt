@@ -26,7 +26,7 @@ use Rattle.vote_book.specs.declared.entry.LogEntry.{LogEntry}
 use Rattle.vote_book.specs.declared.entry.LogEntry.TheVariants.{Accepted, Wrote}
 use Rattle.node_laws.proofs.Certified.{kept_certificate}
 use Rattle.node_laws.proofs.Lists.{among_last, guard}
-use Rattle.node_laws.proofs.Nodes.{Arrived, MayPush, Shows, holds, records}
+use Rattle.node_laws.proofs.Nodes.{Arrived, Late, MayPush, Shows, holds, records}
 use Rattle.node_laws.proofs.Stated.{proposal_asked}
 use Rattle.node_laws.proofs.Votes.{in_force, may_vote, none_accepted, none_written, open_within, opens, tidy_vote}
 use Rattle.node_laws.specs.Sound.{IsBatchAt, IsSound}
@@ -108,6 +108,7 @@ writes_with {S = S} stated view n (Some p) is at =
     let says_it = says.Voted (signed ballots n.secret n.id (record { kind = kinds.Write; slot = open_slot n; digest = p.head.statement.digest })) in
     holds stated view (recording n e) targets.View (ballot n kinds.Write p.head.statement.digest) pushed
     (each_filter (Shows stated (recording n e)) (says.verifies n.secret) (says_it ∷ []) (inr (refl, among_last e n.entries), tt))
+    (each_filter (Late stated view (recording n e)) (says.verifies n.secret) (says_it ∷ []) (inr tt, tt))
 
 pub sound_writes : {S : Type 0} (stated : List Statement) (view : View) (n : Node S) → IsSound stated view n → IsSound stated view (writes n)
 unfolding writes
@@ -197,6 +198,7 @@ accepts_with {S = S} stated view n (Some p) viewed is at =
     holds stated view (recording n e) targets.View (ballot n kinds.Accept p.head.statement.digest) pushed
     (each_filter (Shows stated (recording n e)) (says.verifies n.secret) (says_it ∷ [])
     (inr (refl, record { entry = a; there = among_last e n.entries; slot_is = refl; digest_is = refl }), tt))
+    (each_filter (Late stated view (recording n e)) (says.verifies n.secret) (says_it ∷ []) (inr tt, tt))
 
 pub sound_accepts : {S : Type 0} (stated : List Statement) (view : View) (n : Node S) → is_view view ≡ true → IsSound stated view n → IsSound stated view (accepts n)
 unfolding accepts

@@ -1,27 +1,33 @@
 //! The laws of one node.
-ghost use Rattle.std.specs.Prelude.{◌≡◌, ◌<◌, ◌≤◌, ◌↔◌, ◌⊎◌, ℕ, ◌+◌, ◌-◌, List, [], ◌∷◌, ◌++◌, length, map, None, Some, Ok, true, take};
+ghost use Rattle.std.specs.Prelude.{◌≡◌, ◌<◌, ◌≤◌, ◌↔◌, ◌⊎◌, ℕ, ◌+◌, ◌-◌, List, [], ◌∷◌, ◌++◌, length, map, Option, None, Some, Ok, true, take, drop};
 ghost use Rattle.smart_base.specs.Cuts.{IsBytes};
 ghost use Rattle.smart_base.specs.Lists.{Each};
 ghost use Rattle.smart_base.specs.Views.{View, is_view};
 ghost use Rattle.smart_statements.specs.declared.entry.NodeEvent.{NodeEvent};
 ghost use Rattle.smart_service.specs.Services.{Meaning};
-ghost use Rattle.vote_book.specs.Books.{Lawful, last_made, latest_made};
+ghost use Rattle.vote_book.specs.Books.{Among, HasMade, Lawful, last_made, latest_made};
 ghost use Rattle.vote_book.specs.Entries.{entry_text, entry_decoded, FitsEntry};
 ghost use Rattle.vote_book.specs.declared.entry.Decision.{Decision};
 ghost use Rattle.vote_book.specs.declared.entry.LogEntry.{LogEntry};
 ghost use Rattle.vote_book.specs.declared.entry.LogEntry.TheVariants.{Decided};
+ghost use Rattle.book_laws.specs.BookCuts.{cut_at, InstallUpTo};
 ghost use Rattle.replica_rules.specs.Replicas.{state, after_batches};
 ghost use Rattle.replica_rules.specs.Seals.{digest_of};
 ghost use Rattle.agreement_laws.specs.Fronts.{IsFront};
-ghost use Rattle.agreement_laws.specs.Lists.{AllCertified};
-ghost use Rattle.agreement_laws.specs.Statements.{Statement};
-ghost use Rattle.node_rules.specs.Nodes.{Node, ring_of};
+ghost use Rattle.agreement_laws.specs.Lists.{Certified};
+ghost use Rattle.agreement_laws.specs.Diaries.{IsShown};
+ghost use Rattle.agreement_laws.specs.Statements.{Statement, signer_of, statements};
+ghost use Rattle.node_rules.specs.declared.node.Held.{Held};
+ghost use Rattle.node_rules.specs.declared.node.OwnSnapshot.{OwnSnapshot};
+ghost use Rattle.smart_statements.specs.Batches.{Batch};
+ghost use Rattle.smart_base.specs.declared.party.Party.TheVariants.{Member};
+ghost use Rattle.node_rules.specs.Nodes.{Node, greatest_regency, ring_of};
 ghost use Rattle.node_rules.specs.Steps.{step_of, released, opened, Outset, outset};
 ghost use Rattle.node_rules.specs.Kept.{core_step};
 ghost use Rattle.node_rules.specs.Reopening.{reopened, stopped, decided_of, damaged, entries_in, rests};
 ghost use Rattle.node_laws.specs.Sound.{IsBegun, IsSound, IsStatedEvent, AreAmong, place_if};
 ghost use Rattle.node_laws.specs.Restored.{IsSoundBook};
-ghost use Rattle.node_laws.specs.Restoring.{DecidesInTurn, IsCertified, IsFirstDamage};
+ghost use Rattle.node_laws.specs.Restoring.{AreAlong, DecidesInTurn, IsCertified, IsFirstDamage, outset_behind, resumed_node};
 ghost use Rattle.node_rules.specs.Entries.{AddsAtMost};
 
 use smart_service::service::Service;
@@ -40,26 +46,33 @@ pub fn a_node_stays_sound<S: Service>()
 
 /// A member may restart from any prefix of its book (recovery: Dura-SMaRt, USENIX ATC 2013).
 ///
-/// - `book`: a sound node's book is sound by itself.
+/// - `book`: the book of a sound node that began with the empty replica is sound by itself.
 /// - `front`, `more`: so is each prefix of it, and so it is after more has been stated.
 /// - `decided`: a prefix of the book decides a prefix of what the book decides.
-/// - `reopened`: the node after a restart from a sound book is sound.
-/// - `node`: from any outset it has the entries, all restored and firm, the outset's replica after what
-///   they decide past its place, and nothing else of the earlier life.
-/// - `place`, `latest`: from the empty replica its place is the last one that the entries make, which is the latest, too.
-/// - `turn`, `count`: the entries decide one place after the other.
+/// - `latest`: the last place that the entries make is the latest, too.
+/// - `turn`: each decision is of the place behind the last one that is made.
 /// - `certified`: a quorum of the view has accepted each decided batch at its place, by what has been
 ///   stated.
+/// - `node`: from any outset the node after a restart has the entries, all restored and firm, the
+///   outset's replica after what they decide past its place, and nothing else of the earlier life.
+/// - `reopened`: the node after a restart from a sound book that installs nothing is sound. A book that
+///   installs has a checkpoint.
+/// - `place`, `count`, `along`: its place is the last one that the entries make. Each place is decided,
+///   one after the other, so the entries decide along their own list.
 /// - `read`, `undamaged`: the bytes of the entries are read as these entries, and none is damaged.
 pub fn a_restart_is_sound<S: Service>()
-    ensures book { (stated : List Statement) (view : View) (n : Node S) → IsSound stated view n → IsSoundBook (ring_of n) stated view n.entries }
+    ensures book { (stated : List Statement) (view : View) (n : Node S) → IsSound stated view n → n.opening ≡ 0 → IsSoundBook (ring_of n) stated view n.entries }
     ensures front { (secret : List ℕ) (stated : List Statement) (view : View) (entries : List LogEntry) (k : ℕ) → IsSoundBook secret stated view entries →
         IsSoundBook secret stated view (take k entries) }
     ensures decided { (past : ℕ) (entries : List LogEntry) (k : ℕ) → IsFront (decided_of past (take k entries)) (decided_of past entries) }
     ensures more { (secret : List ℕ) (stated more : List Statement) (view : View) (entries : List LogEntry) → AreAmong stated more → IsSoundBook secret stated view entries →
         IsSoundBook secret more view entries }
-    ensures reopened { (secret : List ℕ) (id : ℕ) (stated : List Statement) (view : View) (period : ℕ) (entries : List LogEntry) → IsSoundBook secret stated view entries →
-        IsSound stated view (reopened S.meaning (outset S.meaning secret id view period) entries) }
+    ensures latest { (secret : List ℕ) (stated : List Statement) (view : View) (entries : List LogEntry) → IsSoundBook secret stated view entries →
+        latest_made entries ≡ place_if (last_made entries) }
+    ensures turn { (secret : List ℕ) (stated : List Statement) (view : View) (before : List LogEntry) (d : Decision) (after : List LogEntry) →
+        IsSoundBook secret stated view (before ++ Decided d ∷ after) → d.slot.place ≡ last_made before + 1 }
+    ensures certified { (secret : List ℕ) (stated : List Statement) (view : View) (entries : List LogEntry) (d : Decision) → IsSoundBook secret stated view entries → Among (Decided d) entries →
+        Certified secret stated view d.slot.place (digest_of d.batch) }
     ensures node { (o : Outset S) (e : LogEntry) (es : List LogEntry) → reopened S.meaning o (e ∷ es) ≡
         record (stopped o) {
           entries = e ∷ es;
@@ -67,19 +80,62 @@ pub fn a_restart_is_sound<S: Service>()
           restored = length (e ∷ es);
           firm = length (e ∷ es);
         } }
-    ensures place { (secret : List ℕ) (id : ℕ) (stated : List Statement) (view : View) (period : ℕ) (entries : List LogEntry) → IsSoundBook secret stated view entries →
+    ensures reopened { (secret : List ℕ) (id : ℕ) (stated : List Statement) (view : View) (period : ℕ) (entries : List LogEntry) → IsSoundBook secret stated view entries → InstallUpTo 0 entries →
+        IsSound stated view (reopened S.meaning (outset S.meaning secret id view period) entries) }
+    ensures place { (secret : List ℕ) (id : ℕ) (stated : List Statement) (view : View) (period : ℕ) (entries : List LogEntry) → IsSoundBook secret stated view entries → InstallUpTo 0 entries →
         (reopened S.meaning (outset S.meaning secret id view period) entries).replica.place ≡ last_made entries }
-    ensures count { (secret : List ℕ) (stated : List Statement) (view : View) (entries : List LogEntry) → IsSoundBook secret stated view entries →
+    ensures count { (secret : List ℕ) (stated : List Statement) (view : View) (entries : List LogEntry) → IsSoundBook secret stated view entries → InstallUpTo 0 entries →
         last_made entries ≡ length (decided_of 0 entries) }
-    ensures latest { (secret : List ℕ) (stated : List Statement) (view : View) (entries : List LogEntry) → IsSoundBook secret stated view entries →
-        latest_made entries ≡ place_if (last_made entries) }
-    ensures turn { (secret : List ℕ) (stated : List Statement) (view : View) (before : List LogEntry) (d : Decision) (after : List LogEntry) →
-        IsSoundBook secret stated view (before ++ Decided d ∷ after) → d.slot.place ≡ length (decided_of 0 before) + 1 }
-    ensures certified { (secret : List ℕ) (stated : List Statement) (view : View) (entries : List LogEntry) → IsSoundBook secret stated view entries →
-        AllCertified secret digest_of stated (λ front. view) [] (decided_of 0 entries) }
+    ensures along { (secret : List ℕ) (stated : List Statement) (view : View) (entries : List LogEntry) → IsSoundBook secret stated view entries → InstallUpTo 0 entries →
+        AreAlong (decided_of 0 entries) entries }
     ensures read { (entries : List LogEntry) → Each FitsEntry entries → entries_in (map entry_text entries) ≡ entries }
-    ensures undamaged { (secret : List ℕ) (stated : List Statement) (view : View) (entries : List LogEntry) → IsSoundBook secret stated view entries → Each FitsEntry entries →
+    ensures undamaged { (secret : List ℕ) (stated : List Statement) (view : View) (entries : List LogEntry) → IsSoundBook secret stated view entries → InstallUpTo 0 entries → Each FitsEntry entries →
         damaged secret 0 view (map entry_text entries) ≡ None }
+{}
+
+/// A member may restart from a checkpoint and the cut of what it has written, if it has installed no
+/// later place (checkpoints: Dura-SMaRt, USENIX ATC 2013; what is kept beside one: this project's own
+/// rule). What it has written decides along a list of batches.
+///
+/// - `read`, `undamaged`: the bytes of a cut's entries are read as these entries, and none is damaged
+///   behind the checkpoint.
+/// - `promised`: a cut promises the greatest regency of what was written.
+/// - `decided`: past the checkpoint's place a cut decides what the whole decides there.
+/// - `listed`, `count`: that is what the list has past this place, up to the last place that was made.
+/// - `placed`: the checkpoint's replica is at its place.
+/// - `node`: the node goes on with the state after the list's batches up to the last place that was made.
+///   Its book is the cut, all restored and firm, and its own snapshot is the checkpoint.
+/// - `reopened`: that node is sound.
+/// - `written`: what a sound node writes behind the cut is sound behind all that was written.
+/// - `shown`: each statement in a message that leaves has been stated, or is the member's own. All that
+///   was written, up to the firm entries, shows the latter.
+pub fn a_restart_from_a_checkpoint_goes_on<S: Service>()
+    ensures read { (place : ℕ) (entries : List LogEntry) → Each FitsEntry entries → entries_in (map entry_text (cut_at place entries)) ≡ cut_at place entries }
+    ensures undamaged { (secret : List ℕ) (stated : List Statement) (view : View) (place : ℕ) (entries : List LogEntry) → IsSoundBook secret stated view entries → InstallUpTo place entries → Each FitsEntry entries →
+        damaged secret place view (map entry_text (cut_at place entries)) ≡ None }
+    ensures promised { (secret : List ℕ) (stated : List Statement) (view : View) (place : ℕ) (entries : List LogEntry) → IsSoundBook secret stated view entries →
+        greatest_regency view.number (cut_at place entries) ≡ greatest_regency view.number entries }
+    ensures decided { (secret : List ℕ) (stated : List Statement) (view : View) (place : ℕ) (entries : List LogEntry) → IsSoundBook secret stated view entries →
+        decided_of place (cut_at place entries) ≡ decided_of place entries }
+    ensures listed { (secret : List ℕ) (stated : List Statement) (view : View) (place : ℕ) (batches : List Batch) (entries : List LogEntry) → IsSoundBook secret stated view entries →
+        InstallUpTo place entries → AreAlong batches entries → decided_of place (cut_at place entries) ≡ take (length (decided_of place (cut_at place entries))) (drop place batches) }
+    ensures count { (secret : List ℕ) (stated : List Statement) (view : View) (place : ℕ) (entries : List LogEntry) → IsSoundBook secret stated view entries → (0 < place → HasMade entries place) →
+        InstallUpTo place entries → last_made entries ≡ place + length (decided_of place (cut_at place entries)) }
+    ensures placed { (view : View) (place : ℕ) (batches : List Batch) (entries : List LogEntry) → (0 < place → HasMade entries place) → AreAlong batches entries →
+        (state S.meaning view (take place batches)).place ≡ place }
+    ensures node { (secret : List ℕ) (id : ℕ) (stated : List Statement) (view : View) (period place : ℕ) (batches : List Batch) (checkpoint : Option OwnSnapshot) (e : LogEntry) (es : List LogEntry) →
+        IsSoundBook secret stated view (e ∷ es) → (0 < place → HasMade (e ∷ es) place) → InstallUpTo place (e ∷ es) → AreAlong batches (e ∷ es) →
+        reopened S.meaning (outset_behind S.meaning secret id view period place batches checkpoint) (cut_at place (e ∷ es)) ≡
+        resumed_node S.meaning secret id view period place batches checkpoint (e ∷ es) }
+    ensures reopened { (secret : List ℕ) (id : ℕ) (stated : List Statement) (view : View) (period place : ℕ) (batches : List Batch) (checkpoint : Option OwnSnapshot) (e : LogEntry) (es : List LogEntry) →
+        IsSoundBook secret stated view (e ∷ es) → (0 < place → HasMade (e ∷ es) place) → InstallUpTo place (e ∷ es) → AreAlong batches (e ∷ es) →
+        IsSound stated view (reopened S.meaning (outset_behind S.meaning secret id view period place batches checkpoint) (cut_at place (e ∷ es))) }
+    ensures written { (stated : List Statement) (view : View) (n : Node S) (diary more : List LogEntry) → IsSound stated view n → IsSoundBook (ring_of n) stated view diary →
+        n.entries ≡ cut_at n.opening diary ++ more → (0 < n.opening → HasMade diary n.opening) → (diary ≡ [] → ⊥) → IsSoundBook (ring_of n) stated view (diary ++ more) }
+    ensures shown { (stated : List Statement) (view : View) (n : Node S) (diary more : List LogEntry) (j : ℕ) (h : Held) → IsSound stated view n → IsSoundBook (ring_of n) stated view diary →
+        n.entries ≡ cut_at n.opening diary ++ more → n.restored ≡ length (cut_at n.opening diary) → (0 < n.opening → HasMade diary n.opening) → (diary ≡ [] → ⊥) →
+        Among h n.held → h.needs ≤ n.restored + j →
+        Each (λ s. Among s stated ⊎ ((signer_of s ≡ Member n.id) × IsShown digest_of (diary ++ take j more) s)) (statements (ring_of n) h.message) }
 {}
 
 /// Restored bytes are undamaged if and only if they are entries from which a member may restart.
@@ -89,7 +145,7 @@ pub fn a_restart_is_sound<S: Service>()
 /// - `begun`, `lawful`: if there are entries, the first is an opening; each may stand after those
 ///   before it.
 /// - `rest`, `certified`, `exact`: an accept has its write certificate and a decision its proof, by a
-///   quorum of the view.
+///   quorum of the view. An installation has the marks of more than f members.
 /// - `turn`, `placed`: past the opening's place the entries decide one place after the other; none
 ///   decides place 0.
 /// - `back`: the bytes of such entries are undamaged.

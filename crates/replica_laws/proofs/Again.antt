@@ -1,22 +1,17 @@
 -- The table lines that a node answers with again.
-use Rattle.std.proofs.Common.{◌≡◌, ℕ, ◌+◌, ◌++◌, ◌==◌, Bool, true, false, List, [], ◌∷◌, refl, cond, Option, Some, None}
+use Rattle.std.proofs.Common.{◌≡◌, ℕ, ◌+◌, ◌++◌, Bool, true, false, List, [], ◌∷◌, refl, cond, Option, Some, None}
 use Rattle.std.specs.Prelude.{IfSome}
-use Rattle.std.specs.List.{flat_map}
 use Rattle.std.specs.Option.{option_to_list}
 use Rattle.smart_base.specs.Lists.{Each}
 use Rattle.smart_statements.specs.Batches.{Batch}
 use Rattle.smart_statements.specs.declared.statement.Request.{Request}
-use Rattle.smart_messages.specs.declared.message.Message.{Message}
 use Rattle.smart_service.specs.Services.{Meaning}
 use Rattle.smart_service.specs.Tables.{kept_in}
 use Rattle.smart_service.specs.declared.table.Execution.{Execution}
 use Rattle.smart_service.specs.declared.replica.Replica.{Replica}
 use Rattle.replica_rules.specs.Replicas.{is_next, line_of, execute, execute_all, line_made, lines_of, at_next, delivered, executed_lines, after_batches, executions_from}
 use Rattle.node_rules.specs.Nodes.{Node}
-use Rattle.node_rules.specs.Arrivals.{noted}
-use Rattle.node_rules.specs.Rules.{fired_if, answering, answer_line, answers_again}
-use Rattle.node_rules.specs.declared.node.Fired.TheVariants as fires
-use Rattle.node_rules.specs.Deliveries.{delivery_in}
+use Rattle.node_rules.specs.Rules.{answering}
 use Rattle.node_laws.proofs.Delivering.{each_noting, answering_each}
 use Rattle.node_rules.specs.declared.node.Asked.{Asked}
 
@@ -32,7 +27,7 @@ for_line P None is = tt
 for_line P (Some line) is = is
 
 -- what holds of each kept reply holds of the one that is an answer
-pub answering-each : {S : Type 0} (P : Execution → Type 0) (n : Node S) (asked : Option Asked) → Each P (kept_in n.replica.table) → ForLine (answering n asked) P
+pub answering-each : {S : Type 0} (P : Execution → Type 0) (n : Node S) (asked : Asked) → Each P (kept_in n.replica.table) → ForLine (answering n asked) P
 answering-each P n asked each = for_line P (answering n asked) (answering_each P n asked each)
 
 -- the lines of a table

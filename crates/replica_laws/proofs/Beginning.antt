@@ -1,5 +1,5 @@
 -- No step begins a regency that the book has begun.
-use Rattle.std.proofs.Common.{◌≡◌, ℕ, ◌+◌, ◌≤◌, ◌++◌, ◌==◌, Bool, true, false, not, List, [], ◌∷◌, refl, ap, arith, cond, nat_lt, max, Option, Some, None, is_some, ◌∙◌, subst, sym, append-nil, eqb-true}
+use Rattle.std.proofs.Common.{◌≡◌, ℕ, ◌≤◌, ◌++◌, ◌==◌, Bool, true, false, not, List, [], ◌∷◌, refl, ap, arith, cond, nat_lt, max, Option, Some, None, is_some, ◌∙◌, subst, sym, append-nil, eqb-true}
 use Rattle.std.specs.Prelude.{find, IfSome}
 use Rattle.smart_base.specs.Lists.{or_else}
 use Rattle.smart_base.specs.Views.{View}
@@ -12,9 +12,10 @@ use Rattle.vote_book.specs.Standing.{first_start, start_by}
 use Rattle.vote_book.specs.declared.entry.Decision.{Decision}
 use Rattle.vote_book.specs.declared.entry.Start.{Start}
 use Rattle.vote_book.specs.declared.entry.LogEntry.{LogEntry}
-use Rattle.vote_book.specs.declared.entry.LogEntry.TheVariants.{Wrote, Promised, Synced, Decided}
+use Rattle.vote_book.specs.declared.entry.LogEntry.TheVariants.{Wrote, Promised, Synced, Decided, Installed, Marked}
 use Rattle.regency_sync.specs.Synchronizers.{needs_sync}
 use Rattle.node_rules.specs.Rules.{delivers, proposes, writing, write_batch, writes, accepting, accept_batch, accepts, deciding, decide_batch, decides, answers_again}
+use Rattle.node_rules.specs.Marks.{mark_of, mark_place}
 use Rattle.node_rules.specs.Nodes.{Node, view_of, regency_of, open_slot, view_start, start_at, is_begun}
 use Rattle.node_rules.specs.Arrivals.{kept, noted}
 use Rattle.node_rules.specs.Changes.{start_by_sync, promised_for, adopts_by, is_adoptable, adoption, adopts, joins, next_promise, promising, promise_next, promises, leads, times}
@@ -25,7 +26,9 @@ use Rattle.node_laws.proofs.Reopened.{reopened_is}
 use Rattle.replica_laws.specs.Books.{passing, begins}
 use Rattle.replica_laws.proofs.Once.{passing-end, passed}
 use Rattle.node_rules.proofs.Rulewise.{KeptByRules, KeptInSteps, free-event, keeps_step}
-use Rattle.node_rules.proofs.Entries.{kept_same, delivers_same, proposes_same, joins_same, leads_same, times_same, noted_same, answers_again_same}
+use Rattle.node_rules.proofs.Entries.{kept_same, delivers_same, proposes_same, joins_same, leads_same, times_same, noted_same, answers_again_same, answers_state_same, plans_same}
+use Rattle.node_rules.specs.Transfers.{answers_state, plans}
+use Rattle.replica_laws.proofs.Installs.{book-installs}
 use Rattle.smart_base.proofs.SameLists.{and_true}
 use Rattle.agreement_laws.proofs.Lists.{not_true, either, either_by}
 
@@ -136,6 +139,10 @@ unfolding decide_batch
 within-decide_batch bound n None is = is
 within-decide_batch bound n (Some d) is = within-more bound n.entries (Decided d) (λ view regency. refl) is
 
+within-mark : {S : Type 0} (bound : ℕ → ℕ → ℕ) (m : Meaning S) (n : Node S) → Within bound n.entries → Within bound (mark_place m n).entries
+unfolding mark_place
+within-mark bound m n is = within-more bound n.entries (Marked (mark_of m n)) (λ view regency. refl) is
+
 within-writes : {S : Type 0} (bound : ℕ → ℕ → ℕ) (n : Node S) → Within bound n.entries → Within bound (writes n).entries
 unfolding writes
 within-writes bound n is = within-write_batch bound n (writing n) is
@@ -159,7 +166,9 @@ within-rules bound some = record {
   by_accepts = λ n is. within-accepts bound n is;
   by_decides = λ n is. within-decides bound n is;
   by_times = λ n is. within-as bound n.entries (times n).entries (times_same n) is;
-  by_answers = λ n message is. within-as bound n.entries (answers_again n message).entries (answers_again_same n message) is;
+  by_answers = λ n asked is. within-as bound n.entries (answers_again n asked).entries (answers_again_same n asked) is;
+  by_states = λ n a is. within-as bound n.entries (answers_state n a).entries (answers_state_same n a) is;
+  by_plans = λ n is. within-as bound n.entries (plans n).entries (plans_same n) is;
 }
 
 within-in_steps : {S : Type 0} (m : Meaning S) (bound : ℕ → ℕ → ℕ) → ((view regency : ℕ) → 1 ≤ bound view regency) → KeptInSteps m (λ n. Within bound n.entries) (λ message. Unit {0})
@@ -167,7 +176,9 @@ within-in_steps m bound some = record {
   by_rules = within-rules bound some;
   by_noted = λ n message is. within-as bound n.entries (noted n message).entries (noted_same n message) is;
   by_kept = λ n message fine may is. within-as bound n.entries (kept n message).entries (kept_same n message) is;
+  by_installs = λ n is. book-installs m n (λ (es : List LogEntry). Within bound es) (λ es i w. within-more bound es (Installed i) (λ view regency. refl) w) is;
   by_delivers = λ n is. within-as bound n.entries (delivers m n).entries (delivers_same m n) is;
+  by_marks = λ n waits is delivered. within-mark bound m (delivers m n) delivered;
   by_firm = λ x count same. same;
 }
 

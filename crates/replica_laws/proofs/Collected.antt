@@ -1,5 +1,5 @@
 -- How long a report is whose evidence and lock hold.
-use Rattle.std.proofs.Common.{◌≡◌, inl, inr, ℕ, ◌+◌, ◌*◌, ◌<◌, ◌≤◌, ◌==◌, ◌&&◌, ◌||◌, Bool, true, false, not, List, [], ◌∷◌, length, length-append, filter, refl, ap, sym, ◌∙◌, subst, cond, nat_le, arith, Option, Some, None, eqb-true}
+use Rattle.std.proofs.Common.{◌≡◌, inl, inr, ℕ, ◌+◌, ◌*◌, ◌<◌, ◌≤◌, ◌==◌, ◌||◌, Bool, true, false, not, List, [], ◌∷◌, length, length-append, filter, refl, ap, sym, ◌∙◌, subst, cond, nat_le, arith, Option, Some, None, eqb-true}
 use Rattle.std.specs.Prelude.{IfSome, IsSomeAnd}
 use Rattle.std.specs.List.{list_any, flat_map, AllByRecursion}
 use Rattle.smart_base.specs.Lists.{Each, Distinct}

@@ -1,26 +1,34 @@
 -- Entries that are no promise and no beginning leave a node's regency, and where it began. And what of a node no rule reads that writes an entry.
-use Rattle.std.proofs.Common.{◌≡◌, ℕ, Bool, true, List, [], ◌∷◌, refl, ap, ◌∙◌, arith, Option, Some, None}
+use Rattle.std.proofs.Common.{◌≡◌, ℕ, ◌==◌, Bool, true, List, [], ◌∷◌, refl, ap, ◌∙◌, arith, Option, Some, None}
 use Rattle.smart_statements.specs.Forms.{SignedBy}
 use Rattle.smart_statements.specs.Batches.{Batch}
 use Rattle.smart_statements.specs.declared.statement.Request.{Request}
 use Rattle.smart_statements.specs.declared.statement.Slot.{Slot}
+use Rattle.smart_statements.specs.declared.report.Mark.{Mark}
 use Rattle.smart_statements.specs.declared.report.Report.{Report}
 use Rattle.smart_messages.specs.declared.message.Message.{Message}
 use Rattle.smart_service.specs.declared.table.Execution.{Execution}
 use Rattle.vote_book.specs.Standing.{start_by}
 use Rattle.vote_book.specs.declared.entry.Accept.{Accept}
 use Rattle.vote_book.specs.declared.entry.Decision.{Decision}
+use Rattle.vote_book.specs.declared.entry.Installation.{Installation}
 use Rattle.vote_book.specs.declared.entry.Write.{Write}
 use Rattle.vote_book.specs.declared.entry.LogEntry.{LogEntry}
-use Rattle.vote_book.specs.declared.entry.LogEntry.TheVariants.{Wrote, Accepted, Decided}
-use Rattle.node_rules.specs.Nodes.{Node, view_of, regency_of, regency_in, recording}
+use Rattle.vote_book.specs.declared.entry.LogEntry.TheVariants.{Wrote, Accepted, Decided, Installed, Marked}
+use Rattle.node_rules.specs.Nodes.{Node, view_of, regency_of, regency_in, holding, holding_all, recording}
 use Rattle.node_rules.specs.Arrivals.{noted}
 use Rattle.node_rules.specs.Rules.{proposing, propose_batch, proposes, answering, answer_line, answers_again}
-use Rattle.node_rules.specs.Changes.{asks_next, joining, joins, leading, lead_with, leads, timing, passes_on, presses, times}
+use Rattle.node_rules.specs.Changes.{asks_next, joining, joins, leading, lead_with, leads, passes_on, presses}
 use Rattle.node_rules.specs.declared.node.Held.{Held}
 use Rattle.node_laws.proofs.Books.{greatest_push}
 use Rattle.agreement_laws.proofs.Lists.{either}
 use Rattle.node_rules.specs.declared.node.Asked.{Asked}
+use Rattle.node_rules.specs.declared.node.Target.{Target}
+use Rattle.node_rules.specs.declared.node.Target.TheVariants as targets
+use Rattle.node_rules.specs.Marks.{firm_at}
+use Rattle.node_rules.specs.Transfers.{answers_state, gives_parts, offer_for, offers_state, part_messages, shown_after}
+use Rattle.smart_messages.specs.declared.message.Message.TheVariants as changes
+use Rattle.transfer_form.specs.declared.transfer.StateAsk.{StateAsk}
 
 -- an entry that is no promise and no beginning
 pub record IsQuiet (e : LogEntry) : Type 0 where
@@ -35,6 +43,12 @@ quiet-accepted a = record { no_promise = λ view. refl; no_start = λ view regen
 
 pub quiet-decided : (d : Decision) → IsQuiet (Decided d)
 quiet-decided d = record { no_promise = λ view. refl; no_start = λ view regency. refl }
+
+pub quiet-marked : (m : Mark) → IsQuiet (Marked m)
+quiet-marked m = record { no_promise = λ view. refl; no_start = λ view regency. refl }
+
+pub quiet-installed : (i : Installation) → IsQuiet (Installed i)
+quiet-installed i = record { no_promise = λ view. refl; no_start = λ view regency. refl }
 
 pub regency-quiet : {S : Type 0} (n : Node S) (e : LogEntry) → IsQuiet e → regency_of (recording n e) ≡ regency_of n
 unfolding regency_of
@@ -106,15 +120,36 @@ aside-passes_on {S = S} n (q ∷ qs) =
     let x : Node S = passes_on n (q ∷ qs) in
     record { holds = x.held; slots = n.proposed; stopped = n.stop_made; led = n.sync_made; pressed = n.impatient; told = n.behind; same = refl }
 
-pub aside-times : {S : Type 0} (n : Node S) → Aside n (times n)
-unfolding times presses
-aside-times {S = S} n =
+pub aside-presses : {S : Type 0} (n : Node S) → Aside n (presses n)
+unfolding presses
+aside-presses {S = S} n =
     let x : Node S = record n { impatient = true } in
-    either (λ (y : Node S). Aside n y) (timing n) _ n
-    (either (λ (y : Node S). Aside n y) n.impatient (asks_next n) (passes_on x n.pool) (aside-asks_next n)
+    either (λ (y : Node S). Aside n y) n.impatient (asks_next n) (passes_on x n.pool) (aside-asks_next n)
     (aside-then n x (passes_on x n.pool)
-    (record { holds = n.held; slots = n.proposed; stopped = n.stop_made; led = n.sync_made; pressed = true; told = n.behind; same = refl }) (aside-passes_on x n.pool)))
-    (aside-same n)
+    (record { holds = n.held; slots = n.proposed; stopped = n.stop_made; led = n.sync_made; pressed = true; told = n.behind; same = refl }) (aside-passes_on x n.pool))
+
+-- messages put into the outbox
+
+pub aside-holding : {S : Type 0} (n : Node S) (to : Target) (m : Message) → Aside n (holding n to m)
+aside-holding {S = S} n to m =
+    let x : Node S = holding n to m in
+    record { holds = x.held; slots = n.proposed; stopped = n.stop_made; led = n.sync_made; pressed = n.impatient; told = n.behind; same = refl }
+
+pub aside-holding_all : {S : Type 0} (n : Node S) (to : Target) (ms : List Message) → Aside n (holding_all n to ms)
+aside-holding_all n to [] = aside-same n
+aside-holding_all n to (m ∷ ms) = aside-then n (holding n to m) (holding_all (holding n to m) to ms) (aside-holding n to m) (aside-holding_all (holding n to m) to ms)
+
+aside-offers_state : {S : Type 0} (n : Node S) (a : StateAsk) → Aside n (offers_state n a)
+unfolding offers_state
+aside-offers_state n a = aside-holding_all n (targets.Node a.member) (changes.StateOffer (offer_for n a.place) ∷ shown_after n a.place)
+
+aside-gives_parts : {S : Type 0} (n : Node S) (a : StateAsk) → Aside n (gives_parts n a)
+unfolding gives_parts
+aside-gives_parts n a = aside-holding_all n (targets.Node a.member) (part_messages (firm_at n a.fetch))
+
+pub aside-answers_state : {S : Type 0} (n : Node S) (a : StateAsk) → Aside n (answers_state n a)
+unfolding answers_state
+aside-answers_state {S = S} n a = either (λ (x : Node S). Aside n x) (a.fetch == 0) (offers_state n a) (gives_parts n a) (aside-offers_state n a) (aside-gives_parts n a)
 
 aside-answer_line : {S : Type 0} (n : Node S) (line : Option Execution) → Aside n (answer_line n line)
 unfolding answer_line
@@ -123,7 +158,7 @@ aside-answer_line {S = S} n (Some line) =
     let x : Node S = answer_line n (Some line) in
     record { holds = x.held; slots = n.proposed; stopped = n.stop_made; led = n.sync_made; pressed = n.impatient; told = n.behind; same = refl }
 
-pub aside-answers_again : {S : Type 0} (n : Node S) (asked : Option Asked) → Aside n (answers_again n asked)
+pub aside-answers_again : {S : Type 0} (n : Node S) (asked : Asked) → Aside n (answers_again n asked)
 unfolding answers_again
 aside-answers_again n asked = aside-answer_line n (answering n asked)
 

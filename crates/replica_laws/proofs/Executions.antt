@@ -1,5 +1,5 @@
 -- What a longer list executes, and what a line of a list's executions says.
-use Rattle.std.proofs.Common.{◌≡◌, ℕ, zero, suc, ◌+◌, ◌-◌, ◌++◌, Bool, true, false, List, [], ◌∷◌, refl, ap, ◌∙◌, sym, cond, Some, None, inl, inr, subst, take, arith, add-one}
+use Rattle.std.proofs.Common.{⊎_elim, ◌⊎◌, ◌≡◌, ℕ, zero, suc, ◌+◌, ◌-◌, ◌++◌, Bool, true, false, List, [], ◌∷◌, refl, ap, ◌∙◌, sym, cond, Some, None, inl, inr, subst, take, arith, add-one}
 use Rattle.std.specs.Prelude.{slice_get}
 use Rattle.std.specs.Option.{option_to_list}
 use Rattle.smart_base.specs.Lists.{Each}
@@ -23,6 +23,12 @@ use Rattle.replica_rules.proofs.Places.{executions_append, views_execute, state_
 pub has_left : (xs ys : List Execution) (l : Execution) → HasLine xs l → HasLine (xs ++ ys) l
 has_left [] ys l has = absurd has
 has_left (x ∷ xs) ys l has = elim has [ inl here ↦ inl here | inr later ↦ inr (has_left xs ys l later) ]
+
+-- a line of both is among the first or the second
+pub has_either : (xs ys : List Execution) (l : Execution) → HasLine (xs ++ ys) l → HasLine xs l ⊎ HasLine ys l
+has_either [] ys l has = inr has
+has_either (x ∷ xs) ys l has =
+    elim has [ inl here ↦ inl (inl here) | inr later ↦ ⊎_elim (λ (some : HasLine xs l). inl (inr some)) (λ (more : HasLine ys l). inr more) (has_either xs ys l later) ]
 
 -- a line of the second list is among both
 pub has_right : (xs ys : List Execution) (l : Execution) → HasLine ys l → HasLine (xs ++ ys) l

@@ -1,5 +1,5 @@
 -- The entries of a node's book have a spelling, whatever comes to it: rule by rule.
-use Rattle.std.proofs.Common.{◌≡◌, ℕ, ◌+◌, ◌^◌, ◌<◌, ◌++◌, ◌==◌, true, List, [], ◌∷◌, length, arith, Option, Some, None, nat_lt, subst, sym}
+use Rattle.std.proofs.Common.{◌≡◌, ℕ, ◌+◌, ◌^◌, ◌<◌, ◌++◌, ◌==◌, true, List, [], ◌∷◌, length, arith, Option, Some, None, is_some, nat_lt, subst, sym, refl, Result, Ok, Err}
 use Rattle.std.specs.List.{AllByRecursion}
 use Rattle.std.specs.Prelude.{IfSome, find, option_map}
 use Rattle.smart_base.specs.Lists.{Each}
@@ -7,9 +7,8 @@ use Rattle.smart_base.specs.Views.{View, is_view}
 use Rattle.smart_statements.specs.Forms.{SignedBy}
 use Rattle.smart_statements.specs.Spelling.{IsSigner, FitsSigned}
 use Rattle.smart_statements.specs.SignedLists.{FitsOptional}
-use Rattle.smart_statements.specs.Reports.{reports, FitsReport, FitsLockCertificate}
+use Rattle.smart_statements.specs.Reports.{reports, FitsMark, FitsReport, FitsLockCertificate}
 use Rattle.smart_messages.specs.Regencies.{FitsSync}
-use Rattle.smart_messages.specs.Messages.{Fits}
 use Rattle.smart_statements.specs.declared.statement.Ballot.{Ballot}
 use Rattle.smart_statements.specs.declared.statement.VoteKind.TheVariants.{Write, Accept}
 use Rattle.smart_statements.specs.declared.report.LockCertificate.{LockCertificate}
@@ -29,15 +28,25 @@ use Rattle.node_rules.specs.Arrivals.{kept, noted}
 use Rattle.node_rules.specs.Rules.{delivers, proposes, writing, write_batch, writes, accepting, accept_batch, accepts, deciding, decide_batch, decides, answers_again}
 use Rattle.node_rules.specs.Changes.{start_by_sync, promised_for, adopts_by, is_adoptable, adoption, adopts, joins, next_promise, promising, promise_next, promises, leads, times}
 use Rattle.node_rules.specs.Kept.{node_after}
-use Rattle.node_rules.specs.Steps.{step_of, opened, outset}
+use Rattle.node_rules.specs.Marks.{mark_of, mark_place}
+use Rattle.node_rules.specs.Steps.{step_of, takes_in, opened, outset}
 use Rattle.replica_laws.proofs.Lists.{if_find}
 use Rattle.replica_laws.proofs.Genuine.{votes-list}
-use Rattle.node_rules.proofs.Rulewise.{KeptByRules, KeptInSteps, keeps_step}
-use Rattle.replica_laws.proofs.FitNodes.{FitNode, FitsBegun, FitsVoted, IsBrief, FitsEvent, view-low, certificate-fits, open-fits, writing-fits, accepting-fits, deciding-fits, promising-low, fit-as, fit-adopts, fit-joins, fit-promises, fit-leads, fit-proposes, fit-writes, fit-accepts, fit-decides, fit-times, fit-answers_again, fit-noted, fit-kept, fit-delivers, fit-opened, event-fits}
+use Rattle.node_rules.proofs.Rulewise.{KeptByRules, by_mark, free-event, keeps_from, takes_in_as}
+use Rattle.smart_base.proofs.SameLists.{and_true}
+use Rattle.replica_laws.proofs.FitNodes.{FitNode, FitsBegun, FitsVoted, FitsEvent, Settles, view-low, certificate-fits, open-fits, writing-fits, accepting-fits, deciding-fits, promising-low, fit-as, fit-adopts, fit-joins, fit-promises, fit-leads, fit-proposes, fit-writes, fit-accepts, fit-decides, fit-times, fit-answers_again, fit-answers_state, fit-plans, fit-installs, fit-noted, fit-kept, fit-delivers, fit-mark, delivered-mark, fit-opened, fit-takes_in, event-fits, event-settles}
+use Rattle.replica_laws.proofs.Parts.{ArePartsBytes, parts-step}
 use Rattle.replica_laws.proofs.FitNodes as nodes
+use Rattle.replica_laws.proofs.Small.{IsBrief}
+use Rattle.node_laws.proofs.Installing.{installing_is}
+use Rattle.node_rules.specs.Transfers.{answers_state, install_by, install_fetch, install_replica, installed_by, installing, installs, is_of_group, plans, spoil}
+use Rattle.smart_service.specs.declared.replica.Replica.{Replica}
+use Rattle.state_transfer.specs.Fetches.{finished}
+use Rattle.state_transfer.specs.declared.fetch.Fetch.{Fetch}
+use Rattle.state_transfer.specs.declared.fetch.Spoiled.{Spoiled}
 use Rattle.replica_laws.specs.Sending.{IsByteEvent}
 use Rattle.agreement_laws.proofs.Lists.{either, either_by, each_end, each_append}
-use Rattle.node_rules.proofs.Entries.{noted_same, answers_again_same, kept_same, delivers_same, proposes_same, joins_same, leads_same, times_same}
+use Rattle.node_rules.proofs.Entries.{noted_same, answers_again_same, answers_state_same, plans_same, kept_same, delivers_same, proposes_same, joins_same, leads_same, times_same}
 
 -- what a node holds has a spelling, and so has each entry of its book
 pub record FitBook {S : Type 0} (m : Meaning S) (secret : List ℕ) (n : Node S) : Type 0 where
@@ -130,27 +139,57 @@ spelled-accept_batch secret n (Some p) fit is each =
       slot_fits = open-fits secret n is fit.low;
       digest_fits = fit.digest_fits;
       writes_fit = votes-list Write votes (certificate-fits secret n.arrivals (view_of n) Write (open_slot n) p.head.statement.digest is.view is.arrivals);
-      batch_fits = fit.batch_fits.0;
+      batch_fits = fit.batch_fits.0.0;
     })
 
 spelled-accepts : {S : Type 0} {m : Meaning S} (secret : List ℕ) (n : Node S) → FitNode m secret n → Each FitsEntry n.entries → Each FitsEntry (accepts n).entries
 unfolding accepts
 spelled-accepts secret n is each = spelled-accept_batch secret n (accepting n) (accepting-fits secret n is) is each
 
-spelled-decide_batch : {S : Type 0} (n : Node S) (d : Option Decision) → IfSome d (λ x. nodes.FitsDecision x × (next_place n < 2 ^ 63)) → Each FitsEntry n.entries → Each FitsEntry (decide_batch n d).entries
+spelled-decide_batch : {S : Type 0} (secret : List ℕ) (n : Node S) (d : Option Decision) → IfSome d (λ x. nodes.FitsDecision secret x × (next_place n < 2 ^ 63)) → Each FitsEntry n.entries → Each FitsEntry (decide_batch n d).entries
 unfolding decide_batch
-spelled-decide_batch n None fit each = each
-spelled-decide_batch n (Some d) fit each =
+spelled-decide_batch secret n None fit each = each
+spelled-decide_batch secret n (Some d) fit each =
     each_end FitsEntry n.entries (entries.Decided d) each
     (record {
       slot_fits = record { view_fits = fit.0.view_fits; place_fits = fit.0.place_fits; regency_fits = fit.0.regency_fits };
-      batch_fits = fit.0.batch_fits;
+      batch_fits = fit.0.batch_fits.0.0;
       accepts_fit = votes-list Accept d.accepts fit.0.accepts_fit;
     })
 
 spelled-decides : {S : Type 0} {m : Meaning S} (secret : List ℕ) (n : Node S) → FitNode m secret n → Each FitsEntry n.entries → Each FitsEntry (decides n).entries
 unfolding decides
-spelled-decides secret n is each = spelled-decide_batch n (deciding n) (deciding-fits secret n is) each
+spelled-decides secret n is each = spelled-decide_batch secret n (deciding n) (deciding-fits secret n is) each
+
+-- a place is marked
+spelled-mark : {S : Type 0} (m : Meaning S) (n : Node S) → FitsMark (mark_of m n) → Each FitsEntry n.entries → Each FitsEntry (mark_place m n).entries
+unfolding mark_place
+spelled-mark m n fit each = each_end FitsEntry n.entries (entries.Marked (mark_of m n)) each fit
+
+-- a replica is taken over
+spelled-install_by : {S : Type 0} (secret : List ℕ) (n : Node S) (f : Fetch) (made : Result (Replica S) Spoiled) → nodes.FitsFetch f → Each FitsEntry n.entries → Each FitsEntry (install_by n f made).entries
+unfolding install_replica spoil
+spelled-install_by {S = S} secret n f (Ok r) fit each =
+    either (λ (x : Node S). Each FitsEntry x.entries) (is_of_group n r) (install_replica n f r) (spoil n f)
+    (each_end FitsEntry n.entries (installed_by f.plan) each
+    (record {
+      place_fits = fit.plan_fits.place_fits;
+      digest_fits = fit.plan_fits.digest_fits;
+      view_fits = fit.plan_fits.view_fits;
+      marks_fit = (let few = fit.plan_fits.marks_fit.few in omega (arith, few), fit.plan_fits.marks_fit.all);
+    })) each
+spelled-install_by secret n f (Err why) fit each = each
+
+spelled-install_fetch : {S : Type 0} {m : Meaning S} (secret : List ℕ) (n : Node S) (due : Option Fetch) → installing n ≡ due → FitNode m secret n → Each FitsEntry n.entries → Each FitsEntry (install_fetch m n due).entries
+unfolding install_fetch spoil
+spelled-install_fetch secret n None at is each = each
+spelled-install_fetch {m = m} secret n (Some f) at is each =
+    let due = installing_is n f at in
+    spelled-install_by secret n f (finished m f) (nodes.fetch_stands n.fetch f due.stands is.transfers.fetch_fits) each
+
+spelled-installs : {S : Type 0} (secret : List ℕ) (m : Meaning S) (n : Node S) → FitNode m secret n → Each FitsEntry n.entries → Each FitsEntry (installs m n).entries
+unfolding installs
+spelled-installs secret m n is each = spelled-install_fetch secret n (installing n) refl is each
 
 -- ---- a step
 
@@ -166,21 +205,31 @@ spelled-rules secret m = record {
   by_decides = λ n is. record { node = fit-decides secret n is.node; book = spelled-decides secret n is.node is.book };
   by_times = λ n is. record { node = fit-times secret n is.node; book = book-as n.entries (times n).entries (times_same n) is.book };
   by_answers = λ n message is. record { node = fit-answers_again secret n message is.node; book = book-as n.entries (answers_again n message).entries (answers_again_same n message) is.book };
+  by_states = λ n a is. record { node = fit-answers_state secret n a is.node; book = book-as n.entries (answers_state n a).entries (answers_state_same n a) is.book };
+  by_plans = λ n is. record { node = fit-plans secret n is.node; book = book-as n.entries (plans n).entries (plans_same n) is.book };
 }
 
-spelled-in_steps : {S : Type 0} (secret : List ℕ) (m : Meaning S) → IsBrief m → KeptInSteps m (λ n. FitBook m secret n) Fits
-spelled-in_steps secret m brief = record {
-  by_rules = spelled-rules secret m;
-  by_noted = λ n message is. record { node = fit-noted secret n message is.node; book = book-as n.entries (noted n message).entries (noted_same n message) is.book };
-  by_kept = λ n message fine fit is. record { node = fit-kept secret n message fine fit is.node; book = book-as n.entries (kept n message).entries (kept_same n message) is.book };
-  by_delivers = λ n is. record { node = fit-delivers secret m brief n is.node; book = book-as n.entries (delivers m n).entries (delivers_same m n) is.book };
-  by_firm = λ x count good. record { node = fit-as secret x count x.proposed x.stop_made x.sync_made x.impatient x.behind good.node; book = good.book };
-}
-
--- each event keeps it
-pub spelled-step : {S : Type 0} (secret : List ℕ) (m : Meaning S) → IsBrief m → (n : Node S) (event : NodeEvent) → FitsEvent event → FitBook m secret n → FitBook m secret (step_of m n event).node
-spelled-step secret m brief n event fit is =
-    keeps_step m (λ x. FitBook m secret x) Fits n event (spelled-in_steps secret m brief) fit is
+-- each event keeps it, if what the node may take over is small
+pub spelled-step : {S : Type 0} (secret : List ℕ) (m : Meaning S) → IsBrief m → (n : Node S) (event : NodeEvent) → FitsEvent event → Settles m (takes_in n event).node → FitBook m secret n
+    → FitBook m secret (step_of m n event).node
+spelled-step {S = S} secret m brief n event fit settles is =
+    let t : Node S = (takes_in n event).node in
+    let i : Node S = installs m t in
+    let taken : FitBook m secret t =
+    record {
+      node = fit-takes_in secret n event fit is.node;
+      book = takes_in_as (λ (x : Node S). Each FitsEntry x.entries) (λ message. Unit {0}) n event (λ message. book-as n.entries (noted n message).entries (noted_same n message) is.book)
+          (λ message none may. book-as (noted n message).entries (kept (noted n message) message).entries (kept_same (noted n message) message) (book-as n.entries (noted n message).entries (noted_same n message) is.book))
+          (λ count. is.book) (free-event event) is.book;
+    } in
+    let installed : FitBook m secret i = record { node = fit-installs secret m brief t settles taken.node; book = spelled-installs secret m t taken.node taken.book } in
+    let delivered : FitBook m secret (delivers m i) =
+    record { node = fit-delivers secret m brief i installed.node; book = book-as i.entries (delivers m i).entries (delivers_same m i) installed.book } in
+    keeps_from m (λ (x : Node S). FitBook m secret x) n event (spelled-rules secret m) taken installed
+    (by_mark m (λ (x : Node S). FitBook m secret x) (is_some i.waiting) (delivers m i) delivered
+    (λ due.
+    let fit = delivered-mark secret m i (and_true (is_some i.waiting) _ due).0 installed.node in
+    record { node = fit-mark secret m brief (delivers m i) fit delivered.node; book = spelled-mark m (delivers m i) fit delivered.book }))
 
 -- a node begins so
 pub spelled-opened : {S : Type 0} (secret : List ℕ) (m : Meaning S) (id : ℕ) (view : View) (period : ℕ) → IsSigner 1 id → is_view view ≡ true → period < 2 ^ 32
@@ -190,11 +239,13 @@ spelled-opened secret m id view period named is low = record {
   book = (record { member_fits = (let least = named.0 in omega (arith, least), named.1); period_fits = low; view_fits = is }, tt);
 }
 
-pub spelled_after : {S : Type 0} (secret : List ℕ) (m : Meaning S) → IsBrief m → (n : Node S) (events : List NodeEvent) → Each IsByteEvent events → FitBook m secret n → FitBook m secret (node_after m n events)
-spelled_after secret m brief n [] each is = is
-spelled_after secret m brief n (e ∷ es) each is = spelled_after secret m brief (step_of m n e).node es each.1 (spelled-step secret m brief n e (event-fits e each.0) is)
+pub spelled_after : {S : Type 0} (secret : List ℕ) (m : Meaning S) → IsBrief m → (n : Node S) (events : List NodeEvent) → Each IsByteEvent events → ArePartsBytes n.fetch → FitBook m secret n → FitBook m secret (node_after m n events)
+spelled_after secret m brief n [] each parts is = is
+spelled_after secret m brief n (e ∷ es) each parts is =
+    spelled_after secret m brief (step_of m n e).node es each.1 (parts-step m n e (event-fits e each.0).1 parts)
+    (spelled-step secret m brief n e (event-fits e each.0).0 (event-settles m brief n e each.0 parts) is)
 
 pub all_spelled : {S : Type 0} (m : Meaning S) → IsBrief m → (secret : List ℕ) (id : ℕ) (view : View) (period : ℕ) (events : List NodeEvent) → IsSigner 1 id → is_view view ≡ true
     → period < 2 ^ 32 → Each IsByteEvent events → Each FitsEntry (node_after m (opened (outset m secret id view period)) events).entries
 all_spelled m brief secret id view period events named viewed low each =
-    (spelled_after secret m brief (opened (outset m secret id view period)) events each (spelled-opened secret m id view period named viewed low)).book
+    (spelled_after secret m brief (opened (outset m secret id view period)) events each tt (spelled-opened secret m id view period named viewed low)).book

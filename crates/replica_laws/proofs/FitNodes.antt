@@ -1,12 +1,12 @@
 -- What a node holds and sends has a spelling, and bears its signers' tags: rule by rule.
-use Rattle.std.proofs.Common.{◌≡◌, ◌⊎◌, inl, inr, ⊎_elim, ℕ, zero, suc, ◌+◌, ◌^◌, ◌<◌, ◌≤◌, ◌++◌, ◌==◌, ◌&&◌, ◌||◌, max, Bool, true, false, not, List, [], ◌∷◌, length, length-append, append-nil, refl, ap, sym, subst, cond, Option, Some, None, is_some, is_none, nat_lt, nat_le, filter, take, arith, Result, Ok, Err}
-use Rattle.std.proofs.lemmas.Bool.{ltb-true, leb-true}
-use Rattle.std.specs.Prelude.{IfSome, option_map, find}
+use Rattle.std.proofs.Common.{◌≡◌, ◌⊎◌, inl, inr, ⊎_elim, ℕ, zero, suc, ◌+◌, ◌^◌, ◌<◌, ◌≤◌, ◌++◌, ◌==◌, ◌&&◌, ◌||◌, max, Bool, true, false, not, List, [], ◌∷◌, length, length-append, append-nil, refl, ap, sym, ◌∙◌, subst, cond, Option, Some, None, is_some, is_none, nat_lt, nat_le, filter, take, arith, Result, Ok, Err, ◌-◌, append_assoc, get_or, length-drop}
+use Rattle.std.proofs.lemmas.Bool.{ltb-true, leb-true, and_from}
+use Rattle.std.specs.Prelude.{IfSome, option_map, find, map}
 use Rattle.std.specs.List.{list_any, list_all, filter_map, cons_option, AllByRecursion}
 use Rattle.std.specs.Option.{option_to_list}
 use Rattle.smart_base.specs.Lists.{Each, or_else, same_bytes}
-use Rattle.smart_base.specs.Spelling.{IsCount, IsPayload}
-use Rattle.smart_base.specs.Views.{View, is_view, is_member, leader, present, quorum}
+use Rattle.smart_base.specs.Spelling.{IsCount, IsPayload, u32, u64, u8}
+use Rattle.smart_base.specs.Views.{View, is_view, is_member, leader, present, quorum, first_quorum}
 use Rattle.smart_base.proofs.ViewLaws.{members-few}
 use Rattle.smart_view.specs.Sizes.{collect_size}
 use Rattle.smart_statements.specs.Equality.{same_slot, same_kind}
@@ -16,9 +16,9 @@ use Rattle.smart_statements.specs.Batches.{Batch, batch_text, FitsBatch}
 use Rattle.smart_statements.specs.Spelling as spells
 use Rattle.smart_statements.specs.Spelling.{FitsSlot, FitsBallot, FitsRequest, IsSigner, FitsSigned}
 use Rattle.smart_statements.specs.SignedLists.{optional, FitsOptional}
-use Rattle.smart_statements.specs.Reports.{reports, votes_of, FitsVote, FitsReport}
+use Rattle.smart_statements.specs.Reports.{reports, marks, votes_of, FitsVote, FitsMark, FitsReport}
 use Rattle.smart_messages.specs.Regencies.{stops, syncs, FitsSync}
-use Rattle.smart_messages.specs.Messages.{spelling, Fits, decoded}
+use Rattle.smart_messages.specs.Messages.{spelling, kind, Fits, decoded}
 use Rattle.smart_messages.proofs.Messages.{decoded_is}
 use Rattle.smart_base.specs.Cuts.{IsBytes}
 use Rattle.node_rules.specs.Kept.{node_after}
@@ -53,37 +53,69 @@ use Rattle.replica_rules.specs.Seals.{is_verified, signed, digest_of, is_manager
 use Rattle.replica_rules.specs.Replicas.{is_next, line_of, execute, line_made, lines_of, at_next, delivered, executed_lines}
 use Rattle.node_rules.specs.Votes.{is_vote, has_vote, certificate, Named, vote_for, first_vote, certificate_votes, proposed_in, proposed_for, named_in, named_by, known, decision_by, accepted_under}
 use Rattle.replica_rules.specs.Pools.{offered, settled, is_within as is_within_limits, filled, batch_of, gathered}
-use Rattle.node_rules.specs.Rules.{reply_of, replying, lines_to_answer, deliver_batch, delivers, batch_under, proposing, propose_batch, proposes, ballot, votable, writing, write_batch, writes, written, accepting, accept_batch, accepts, slot_in, decision_in, decision_ahead, deciding, decide_batch, decides, answering, answer_line, answers_again}
-use Rattle.node_rules.specs.Nodes.{Node, view_of, regency_of, regency_in, greatest_regency, start_of, next_place, open_slot, is_free, is_open, bound_at, synchronizer_of, holding, recording}
-use Rattle.node_rules.specs.Arrivals.{signer_why, view_why, regency_why, bears_lock, is_batch_for, is_proven, why_report, why_dropped, kept, noted}
-use Rattle.node_rules.specs.Changes.{start_by_sync, promised_for, adopts_by, is_adoptable, adoption, adopts, stop_for, asks_next, joining, joins, report_of, reported_by, next_promise, promising, promise_next, promises, leading, lead_with, leads, is_pressed, timing, passes_on, presses, times}
-use Rattle.node_rules.specs.Steps.{step_of, released, opened, outset}
-use Rattle.node_rules.specs.declared.node.Why.TheVariants.{NotLeader, BadProof}
+use Rattle.node_rules.specs.Rules.{reply_of, replying, lines_to_answer, deliver_batch, delivers, batch_under, proposing, propose_batch, proposes, ballot, votable, writing, write_batch, writes, written, accepting, accept_batch, accepts, slot_in, decision_in, decision_ahead, deciding, decide_batch, decides, answering, answer_line, answers_again, decision_shown, first_votes, has_signed, shown_next}
+use Rattle.node_rules.specs.Nodes.{Node, view_of, regency_of, regency_in, greatest_regency, start_of, next_place, open_slot, is_free, is_open, bound_at, synchronizer_of, holding, recording, decided_place, holding_all}
+use Rattle.node_rules.specs.Arrivals.{signer_why, view_why, regency_why, bears_lock, is_batch_for, is_proven, why_report, why_dropped, kept, noted, is_proven_batch, regency_by, why_decision, why_mark, why_vote}
+use Rattle.node_rules.specs.Changes.{start_by_sync, promised_for, adopts_by, is_adoptable, adoption, adopts, stop_for, asks_next, joining, joins, report_of, reported_by, next_promise, promising, promise_next, promises, leading, lead_with, leads, is_pressed, timing, passes_on, presses, times, asks_state, lags, state_ask}
+use Rattle.node_rules.specs.Steps.{step_of, takes_in, released, opened, outset}
+use Rattle.node_rules.specs.declared.node.Why.TheVariants.{NotLeader, BadProof, BadTag, FarPlace, InvalidBatch, OldPlace}
+use Rattle.node_rules.specs.Marks.{mark_of, mark_place, firm_at, is_firm_snapshot, is_own_turn, last_taken, newest_firm, own_snapshot, own_snapshots, snapshots_due}
 use Rattle.node_rules.specs.declared.node.Held.{Held}
+use Rattle.node_rules.specs.declared.node.OwnSnapshot.{OwnSnapshot}
 use Rattle.node_rules.specs.declared.node.Target.{Target}
 use Rattle.node_rules.specs.declared.node.Target.TheVariants as targets
 use Rattle.replica_laws.proofs.Lists.{each_given, if_weaker, if_or, if_cond, if_map, if_find, if_found, third-none}
-use Rattle.replica_laws.proofs.Entered.{IsQuiet, quiet-wrote, quiet-accepted, quiet-decided, regency-quiet}
+use Rattle.replica_laws.proofs.Entered.{IsQuiet, quiet-wrote, quiet-accepted, quiet-decided, quiet-installed, quiet-marked, regency-quiet}
 use Rattle.replica_laws.proofs.Checked.{for_batch-weaker, for_batch-or, each_offered, verified_where_signed, valid_where_kept, fits_where_valid, fits_each, greater-if, votable-if, written-if}
 use Rattle.certificates.specs.Collects.{evidence_holds, has_no_false_lock}
 use Rattle.replica_laws.proofs.Collected.{report-short}
-use Rattle.replica_laws.proofs.Genuine.{IsGood, good-genuine, AreVerified, FitVotes, FitEvidence, FitLock, FitReport, FitsSome, FitsCollected, digest_of-length, ask-good, vote-good, reply-good, propose-good, stop-good, report-good, sync-good, single-fits, single-verified, longer-fits, longer-verified}
+use Rattle.replica_laws.proofs.Genuine.{IsGood, good-genuine, AreVerified, FitVotes, FitEvidence, FitLock, FitReport, FitsSome, FitsCollected, digest_of-length, ask-good, vote-good, reply-good, mark-good, propose-good, stop-good, report-good, sync-good, single-fits, single-verified, longer-fits, longer-verified, FitMarks, ask_state-good, decision-good, offer-good, part-good, signed-fits, signed-verified}
 use Rattle.replica_laws.proofs.Again.{ForLine, answering-each, each-delivered}
-use Rattle.node_rules.proofs.Rulewise.{KeptByRules, KeptInSteps, keeps_step, ForRead, ForEvent}
+use Rattle.replica_laws.proofs.Replying.{place-delivers}
+use Rattle.smart_keys.proofs.Digests.{digest-length}
+use Rattle.snapshot_form.specs.Snapshots.{snapshot_text, pieces}
+use Rattle.node_rules.proofs.Rulewise.{KeptByRules, ForRead, ForEvent, by_mark, keeps_from, takes_in_as, why-noted}
+use Rattle.kept_arrivals.proofs.Transfers.{installing_ready}
+use Rattle.replica_laws.proofs.Parts.{ArePartsBytes, IsBytesIn, parts-step, parts-takes_in}
 use Rattle.replica_laws.specs.Sending.{IsTerse, ForBatch, IsByteEvent, HoldsGenuine, IsGenuine}
-use Rattle.agreement_laws.proofs.Lists.{each_take, either, either_by, each_end, each_append}
+use Rattle.agreement_laws.proofs.Lists.{each_take, either, either_by, each_end, each_append, not_false, some_equal}
 use Rattle.smart_base.proofs.SameLists.{and_true}
 use Rattle.smart_base.proofs.ViewFacts.{each-weaken}
 use Rattle.regency_sync.proofs.Lists.{each_filter}
 use Rattle.node_laws.proofs.Certified.{same_kind_is}
 use Rattle.node_laws.proofs.Passes.{each_staying}
 use Rattle.node_laws.proofs.Books.{greatest_push}
-use Rattle.node_laws.proofs.Arriving.{ask_tagged}
+use Rattle.node_laws.proofs.Arriving.{ask_tagged, proven_is}
 use Rattle.replica_rules.proofs.Places.{views_execute, views_delivered, place_execute}
 use Rattle.replica_rules.proofs.Coming.{valid_execute, valid_delivered}
-use Rattle.smart_service.proofs.Coming.{comes_valid}
-use Rattle.node_rules.proofs.Options.{else_none}
+use Rattle.node_rules.proofs.Options.{else_none, no_reason}
 use Rattle.node_rules.specs.declared.node.Asked.{Asked}
+use Rattle.node_laws.proofs.Installing.{IsReady, each_drop, installing_is, views_equal}
+use Rattle.node_laws.proofs.Planning.{IsTakenFrom, all_each_mark, finished_from, plan_each, plan_few}
+use Rattle.node_rules.specs.Transfers.{answers_state, decided_at, decides_at, follow_plan, gives_parts, install_by, install_fetch, install_replica, installed_by, installing, installs, is_of_group, is_other_offer, is_shown_place, last_few, made_of, mark_made, marks_past, offer_for, offers_state, part_messages, place_of_snapshot, places_after, planning, plans, shown_after, shown_as, shown_at, size_of_snapshot, spoil}
+use Rattle.replica_laws.proofs.Small.{IsBrief, IsSmall, IsSmallLine, each_kept, restored_text, short_small, small-delivered, small-restored}
+use Rattle.smart_base.specs.Bytes.{bytes-after}
+use Rattle.smart_service.specs.declared.table.TableLine.{TableLine}
+use Rattle.smart_statements.specs.ReportLaws.{mark_small}
+use Rattle.smart_statements.specs.declared.report.Mark.{Mark}
+use Rattle.snapshot_form.specs.Replicas.{IsOfClients}
+use Rattle.state_transfer.proofs.Certificates.{rests_on_marks}
+use Rattle.state_transfer.proofs.Joined.{piece_short}
+use Rattle.state_transfer.specs.Fetches.{are_all_there, bytes_in, finished, is_numbered, joined, joined_of, kept_unless, part_at, pieces_of}
+use Rattle.state_marks.specs.Tables as tables_of_marks
+use Rattle.state_transfer.specs.Plans.{all_marks, planned, verified_offer}
+use Rattle.state_transfer.specs.Seeds.{seed, seeds, seeds_to}
+use Rattle.state_transfer.specs.declared.choice.NotYet.{NotYet}
+use Rattle.state_transfer.specs.declared.choice.Plan.{Plan}
+use Rattle.state_transfer.specs.declared.fetch.Fetch.{Fetch}
+use Rattle.state_transfer.specs.declared.fetch.Spoiled.{Spoiled}
+use Rattle.std.proofs.lemmas.List.{get_or_past, length-map, map-append}
+use Rattle.transfer_form.specs.Transfers.{FitsProven, IsMember, part_text}
+use Rattle.transfer_form.specs.declared.transfer.ProvenBatch.{ProvenBatch}
+use Rattle.transfer_form.specs.declared.transfer.StateAsk.{StateAsk}
+use Rattle.transfer_form.specs.declared.transfer.StateOffer.{StateOffer}
+use Rattle.transfer_form.specs.declared.transfer.StatePart.{StatePart}
+use Rattle.vote_book.specs.declared.entry.Installation.{Installation}
 
 -- ---- what has a spelling
 
@@ -91,15 +123,27 @@ use Rattle.node_rules.specs.declared.node.Asked.{Asked}
 abbrev pub FitsSending : List ℕ → Batch → Type 0
 FitsSending secret batch = FitsBatch batch × AreVerified secret batch
 
--- a proposal that was kept: its digest has its length, and its batch may be sent. A vote that was kept
+-- a batch that was sent: it has a spelling, of clients that there are, and each request in it its client's tag
+abbrev pub FitsKnown : List ℕ → Batch → Type 0
+FitsKnown secret batch = IsOfClients batch × AreVerified secret batch
+
+-- a vote with its member's tag
+abbrev pub FitsCast : List ℕ → SignedBy Ballot → Type 0
+FitsCast secret b = FitsSigned ballots (λ signer. FitsBallot) b × (is_verified ballots secret b ≡ true)
+
+-- a proposal that was kept: its digest has its length, and its batch may be delivered. A vote that was kept
 abbrev pub FitsArrival : List ℕ → Message → Type 0
-FitsArrival secret (Propose p) = FitsSending secret p.batch × (length p.head.statement.digest ≡ 32)
-FitsArrival secret (Vote b) = FitsSigned ballots (λ signer. FitsBallot) b
+FitsArrival secret (Propose p) = FitsKnown secret p.batch × (length p.head.statement.digest ≡ 32)
+FitsArrival secret (Vote b) = FitsCast secret b
 FitsArrival secret _ = Unit {0}
 
 -- a batch that has a spelling, at a place that has one
 abbrev pub FitsAt : ℕ → Batch → Type 0
 FitsAt place batch = FitsBatch batch × (place < 2 ^ 63)
+
+-- a batch that may be delivered at a place
+abbrev pub FitsWaiting : ℕ → Batch → Type 0
+FitsWaiting place batch = IsOfClients batch × (place < 2 ^ 63)
 
 -- a request of the pool has a spelling, and its client's tag
 pub record FitsPool (secret : List ℕ) (q : SignedBy Request) : Type 0 where
@@ -124,15 +168,23 @@ pub record FitsAccept (secret : List ℕ) (a : accept.Accept) : Type 0 where
   pub regency_fits : a.slot.regency < 2 ^ 32
   pub digest_fits : length a.digest ≡ 32
   pub writes_fit : FitVotes Write a.writes
-  pub batch_fits : FitsSending secret a.batch
+  pub batch_fits : FitsKnown secret a.batch
 
--- a decision that a report can state as its evidence
-pub record FitsDecision (d : Decision) : Type 0 where
+-- a decision that a report can state as its evidence, and that may be shown
+pub record FitsDecision (secret : List ℕ) (d : Decision) : Type 0 where
   pub view_fits : d.slot.view < 2 ^ 32
   pub place_fits : IsCount d.slot.place
   pub regency_fits : d.slot.regency < 2 ^ 32
   pub accepts_fit : FitVotes Accept d.accepts
-  pub batch_fits : FitsBatch d.batch
+  pub voted : Each (λ b. is_verified ballots secret b ≡ true) d.accepts
+  pub batch_fits : FitsKnown secret d.batch
+
+-- an installation that a report can state as its evidence
+pub record FitsInstalled (i : Installation) : Type 0 where
+  pub place_fits : IsCount i.place
+  pub digest_fits : length i.digest ≡ 32
+  pub view_fits : i.view < 2 ^ 32
+  pub marks_fit : FitMarks 31 i.marks
 
 abbrev pub FitsEntry : List ℕ → LogEntry → Type 0
 FitsEntry secret (entries.Opened o) = Unit {0}
@@ -140,9 +192,9 @@ FitsEntry secret (entries.Wrote w) = Unit {0}
 FitsEntry secret (entries.Accepted a) = FitsAccept secret a
 FitsEntry secret (entries.Promised p) = Unit {0}
 FitsEntry secret (entries.Synced s) = Unit {0}
-FitsEntry secret (entries.Decided d) = FitsDecision d
-FitsEntry secret (entries.Installed i) = ⊥
-FitsEntry secret (entries.Marked m) = ⊥
+FitsEntry secret (entries.Decided d) = FitsDecision secret d
+FitsEntry secret (entries.Installed i) = FitsInstalled i
+FitsEntry secret (entries.Marked m) = FitsMark m
 
 -- the batch that comes with a lock may be sent
 abbrev pub FitsLocked : List ℕ → Option LockCertificate → Option Batch → Type 0
@@ -158,6 +210,45 @@ pub record FitsReported (secret : List ℕ) (r : Reported) : Type 0 where
 abbrev pub FitsBegun : SignedBy Sync → Type 0
 FitsBegun s = FitsSync s.statement
 
+-- ---- what is taken over
+
+-- an own snapshot that may be offered, and given in parts
+pub record FitsSnapshot (s : OwnSnapshot) : Type 0 where
+  pub place_fits : IsCount s.place
+  pub short : length s.snapshot ≤ 16777216
+
+-- a mark with its member's tag
+abbrev pub FitsStated : List ℕ → SignedBy Mark → Type 0
+FitsStated secret k = FitsSigned marks (λ signer. FitsMark) k × (is_verified marks secret k ≡ true)
+
+-- a decided batch that others showed
+pub record FitsShown (secret : List ℕ) (d : ProvenBatch) : Type 0 where
+  pub place_fits : IsCount d.place
+  pub batch_fits : FitsKnown secret d.batch
+  pub accepts_fit : Each (FitsSigned (votes_of Accept) (λ signer. FitsVote Accept)) d.accepts
+  pub voted : Each (λ b. is_verified ballots secret b ≡ true) d.accepts
+
+-- a plan that may be recorded
+pub record FitsPlan (p : Plan) : Type 0 where
+  pub place_fits : IsCount p.place
+  pub digest_fits : length p.digest ≡ 32
+  pub view_fits : p.view < 2 ^ 32
+  pub marks_fit : FitMarks 31 p.marks
+
+-- a plan that may be recorded, whatever its parts are
+pub record FitsFetch (f : Fetch) : Type 0 where
+  pub plan_fits : FitsPlan f.plan
+
+-- a replica that may be delivered to and given on, and what is taken over from others
+pub record FitsTransfers {S : Type 0} (m : Meaning S) (secret : List ℕ) (r : Replica S) (own : List OwnSnapshot) (shown : List ProvenBatch) (offers : List StateOffer) (table : List (SignedBy Mark))
+    (fetch : Option Fetch) : Type 0 where
+  pub small : IsSmall m r
+  pub owned : Each FitsSnapshot own
+  pub shown_fit : Each (FitsShown secret) shown
+  pub offers_fit : Each (λ (o : StateOffer). Each (FitsStated secret) o.marks) offers
+  pub table_fits : Each (FitsStated secret) table
+  pub fetch_fits : IfSome fetch FitsFetch
+
 -- all that a node holds has a spelling, and what it sends
 pub record FitNode {S : Type 0} (m : Meaning S) (secret : List ℕ) (n : Node S) : Type 0 where
   pub named : IsSigner 1 n.id
@@ -171,9 +262,10 @@ pub record FitNode {S : Type 0} (m : Meaning S) (secret : List ℕ) (n : Node S)
   pub told : Each (FitsReported secret) n.reports
   pub begun : Each FitsBegun n.syncs
   pub book : Each (FitsEntry secret) n.entries
-  pub waiting : ForBatch n.waiting (FitsAt (next_place n))
+  pub waiting : ForBatch n.waiting (FitsWaiting (next_place n))
   pub held : Each (λ h. IsGood secret h.message) n.held
   pub service : Comes m n.replica.service
+  pub transfers : FitsTransfers m secret n.replica (own_snapshots n) n.decisions n.offers n.marks n.fetch
 
 -- a view's number
 pub view-low : (v : View) → is_view v ≡ true → v.number < 2 ^ 32
@@ -210,6 +302,7 @@ fit-as secret n firm slots stopped led pressed told is =
       waiting = is.waiting;
       held = is.held;
       service = is.service;
+      transfers = is.transfers;
     }
 
 -- a message waits to leave
@@ -231,6 +324,7 @@ fit-holding secret n to message good is =
       waiting = is.waiting;
       held = each_end (λ (h : Held). IsGood secret h.message) n.held _ is.held good;
       service = is.service;
+      transfers = is.transfers;
     }
 
 -- entries are recorded
@@ -252,6 +346,7 @@ fit-book secret n more regency fit is =
       waiting = is.waiting;
       held = is.held;
       service = is.service;
+      transfers = is.transfers;
     }
 
 fit-recording : {S : Type 0} {m : Meaning S} (secret : List ℕ) (n : Node S) (e : LogEntry) → IsQuiet e → FitsEntry secret e → FitNode m secret n → FitNode m secret (recording n e)
@@ -284,6 +379,20 @@ verified_each secret place (q ∷ qs) all =
     both : (a b : Bool) → a ≡ true → b ≡ true → (a && b) ≡ true
     both true b ea eb = eb
     both false b ea eb = absurd (cc)
+
+-- and is of a client that there is
+clients_each : (secret : List ℕ) (place : ℕ) (batch : Batch) → list_all (request_fits secret place) batch ≡ true → Each (λ q. q.statement.client ≤ 1024) batch
+clients_each secret place [] all = tt
+clients_each secret place (q ∷ qs) all =
+    let parts = and_true (request_fits secret place q) (list_all (request_fits secret place) qs) all in
+    let one = and_true (nat_le q.statement.client 1024 && nat_lt q.statement.after place) (is_verified requests secret q) parts.0 in
+    let two = and_true (nat_le q.statement.client 1024) (nat_lt q.statement.after place) one.0 in
+    (leb-true q.statement.client 1024 two.0, clients_each secret place qs parts.1)
+
+known_where_valid : (secret : List ℕ) (place : ℕ) (digest : List ℕ) (batch : Batch) → is_batch_for secret place digest batch ≡ true → FitsBatch batch → FitsKnown secret batch
+known_where_valid secret place digest batch valid fit =
+    let each = fits_each secret batch place (fits_where_valid secret place digest batch valid) in
+    ((fit, clients_each secret place batch each), verified_each secret place batch each)
 
 verified_where_valid : (secret : List ℕ) (place : ℕ) (digest : List ℕ) (batch : Batch) → is_batch_for secret place digest batch ≡ true → AreVerified secret batch
 verified_where_valid secret place digest batch valid = verified_each secret place batch (fits_each secret batch place (fits_where_valid secret place digest batch valid))
@@ -327,6 +436,57 @@ head-short r short =
     let long = length-append (spells.signed reports r.head) (optional batch_text r.batch) in
     omega (arith, short, long)
 
+-- a vote that is not dropped bears its member's tag
+vote_verified : {S : Type 0} (n : Node S) (b : SignedBy Ballot) → why_vote n b ≡ None → is_verified ballots n.secret b ≡ true
+unfolding why_vote
+vote_verified n b none = verified_where_signed n (is_verified ballots n.secret b) b.signer (else_none (signer_why n (is_verified ballots n.secret b) b.signer) _ none).0
+
+-- and so does a mark
+mark_verified : {S : Type 0} (n : Node S) (k : SignedBy Mark) → why_mark n k ≡ None → is_verified marks n.secret k ≡ true
+unfolding why_mark
+mark_verified n k none = not_false (is_verified marks n.secret k) (no_reason (not (is_verified marks n.secret k)) BadTag _ none).0
+
+-- what holds of each mark of a table, and of a new one, holds of each behind it
+each-noted : (P : SignedBy Mark → Type 0) (k : SignedBy Mark) (table : List (SignedBy Mark)) → Each P table → P k → Each P (tables_of_marks.noted k table)
+unfolding tables_of_marks.noted
+each-noted P k table each is =
+    either (λ (ks : List (SignedBy Mark)). Each P ks) (tables_of_marks.repeats table k) table _ each
+    (either (λ (ks : List (SignedBy Mark)). Each P ks) (nat_le 64 (tables_of_marks.count_of k.signer table)) _ (table ++ k ∷ [])
+    (each_filter P _ (table ++ k ∷ []) (each_end P table k each is)) (each_end P table k each is))
+
+-- the marks of an offer that verify
+offered-fit : (secret : List ℕ) (ms : List (SignedBy Mark)) → AllByRecursion (FitsSigned marks (λ signer. FitsMark)) ms → Each (FitsStated secret) (filter (is_verified marks secret) ms)
+offered-fit secret [] all = tt
+offered-fit secret (k ∷ ms) all = by (is_verified marks secret k) refl (offered-fit secret ms all.1)
+  where
+    by : (t : Bool) → is_verified marks secret k ≡ t → Each (FitsStated secret) (filter (is_verified marks secret) ms) → Each (FitsStated secret) (cond t (k ∷ filter (is_verified marks secret) ms) (filter (is_verified marks secret) ms))
+    by true is rest = ((all.0, is), rest)
+    by false is rest = rest
+
+all_each : {A : Type 0} (P : A → Type 0) (xs : List A) → AllByRecursion P xs → Each P xs
+all_each P [] all = tt
+all_each P (x ∷ xs) all = (all.0, all_each P xs all.1)
+
+-- a decided batch that is not dropped
+shown-fits : {S : Type 0} (n : Node S) (d : ProvenBatch) → why_decision n d ≡ None → FitsProven d → FitsShown n.secret d
+unfolding why_decision
+shown-fits n d none fit =
+    let place = no_reason (nat_le d.place (decided_place n)) OldPlace _ none in
+    let far = no_reason (nat_lt (decided_place n + 1) d.place || is_some n.waiting) FarPlace _ place.1 in
+    let batch = no_reason (not (is_batch_for n.secret d.place (digest_of d.batch) d.batch)) InvalidBatch _ far.1 in
+    let proven = no_reason (not (is_proven_batch n d)) BadProof _ batch.1 in
+    record {
+      place_fits = fit.place_fits;
+      batch_fits = known_where_valid n.secret d.place (digest_of d.batch) d.batch (not_false (is_batch_for n.secret d.place (digest_of d.batch) d.batch) batch.0) fit.batch_fits;
+      accepts_fit = all_each (FitsSigned (votes_of Accept) (λ signer. FitsVote Accept)) d.accepts fit.accepts_fit.1;
+      voted = (proven_is n d (not_false (is_proven_batch n d) proven.0)).0.verified;
+    }
+
+-- a part is kept
+part-kept : (p : StatePart) (fetch : Option Fetch) → IfSome fetch FitsFetch → IfSome (option_map (λ (f : Fetch). kept_unless None f p) fetch) FitsFetch
+part-kept p None fit = tt
+part-kept p (Some f) fit = record { plan_fits = fit.plan_fits }
+
 -- an arrival that is not dropped is kept
 pub fit-kept : {S : Type 0} {m : Meaning S} (secret : List ℕ) (n : Node S) (message : Message) → why_dropped n message ≡ None → Fits message → FitNode m secret n → FitNode m secret (kept n message)
 unfolding kept regency_of
@@ -348,6 +508,7 @@ fit-kept {S = S} {m = m} secret n (Ask q) fine fit is =
       waiting = is.waiting;
       held = is.held;
       service = is.service;
+      transfers = is.transfers;
     }) is
 fit-kept secret n (Propose p) fine fit is =
     record {
@@ -359,11 +520,8 @@ fit-kept secret n (Propose p) fine fit is =
       lines = is.lines;
       pool = is.pool;
       arrivals = each_end (FitsArrival secret) n.arrivals (Propose p) is.arrivals (
-        (
-          fit.content_fits.1,
-          subst (λ (s : List ℕ). AreVerified s p.batch) is.shared
-              (verified_where_valid n.secret p.head.statement.slot.place p.head.statement.digest p.batch (valid_where_kept n p fine)),
-        ),
+        subst (λ (s : List ℕ). FitsKnown s p.batch) is.shared
+            (known_where_valid n.secret p.head.statement.slot.place p.head.statement.digest p.batch (valid_where_kept n p fine) fit.content_fits.1),
         fit.content_fits.0.statement_fits.digest_fits,
       );
       told = is.told;
@@ -372,6 +530,7 @@ fit-kept secret n (Propose p) fine fit is =
       waiting = is.waiting;
       held = is.held;
       service = is.service;
+      transfers = is.transfers;
     }
 fit-kept secret n (Vote b) fine fit is =
     record {
@@ -382,13 +541,14 @@ fit-kept secret n (Vote b) fine fit is =
       regency = is.regency;
       lines = is.lines;
       pool = is.pool;
-      arrivals = each_end (FitsArrival secret) n.arrivals (Vote b) is.arrivals fit.content_fits;
+      arrivals = each_end (FitsArrival secret) n.arrivals (Vote b) is.arrivals (fit.content_fits, subst (λ (s : List ℕ). is_verified ballots s b ≡ true) is.shared (vote_verified n b fine));
       told = is.told;
       begun = is.begun;
       book = is.book;
       waiting = is.waiting;
       held = is.held;
       service = is.service;
+      transfers = is.transfers;
     }
 fit-kept secret n (changes.Stop s) fine fit is =
     record {
@@ -406,6 +566,7 @@ fit-kept secret n (changes.Stop s) fine fit is =
       waiting = is.waiting;
       held = is.held;
       service = is.service;
+      transfers = is.transfers;
     }
 fit-kept secret n (changes.StopData r) fine fit is =
     record {
@@ -432,6 +593,7 @@ fit-kept secret n (changes.StopData r) fine fit is =
       waiting = is.waiting;
       held = is.held;
       service = is.service;
+      transfers = is.transfers;
     }
 fit-kept secret n (changes.Sync s) fine fit is =
     record {
@@ -449,6 +611,7 @@ fit-kept secret n (changes.Sync s) fine fit is =
       waiting = is.waiting;
       held = is.held;
       service = is.service;
+      transfers = is.transfers;
     }
 fit-kept secret n (changes.Mark k) fine fit is =
     record {
@@ -466,6 +629,91 @@ fit-kept secret n (changes.Mark k) fine fit is =
       waiting = is.waiting;
       held = is.held;
       service = is.service;
+      transfers = record {
+        small = is.transfers.small;
+        owned = is.transfers.owned;
+        shown_fit = is.transfers.shown_fit;
+        offers_fit = is.transfers.offers_fit;
+        table_fits = each-noted (FitsStated secret) k n.marks is.transfers.table_fits
+            (fit.content_fits, subst (λ (s : List ℕ). is_verified marks s k ≡ true) is.shared (mark_verified n k fine));
+        fetch_fits = is.transfers.fetch_fits;
+      };
+    }
+fit-kept secret n (changes.Decision d) fine fit is =
+    record {
+      named = is.named;
+      shared = is.shared;
+      view = is.view;
+      views = is.views;
+      regency = is.regency;
+      lines = is.lines;
+      pool = is.pool;
+      arrivals = is.arrivals;
+      told = is.told;
+      begun = is.begun;
+      book = is.book;
+      waiting = is.waiting;
+      held = is.held;
+      service = is.service;
+      transfers = record {
+        small = is.transfers.small;
+        owned = is.transfers.owned;
+        shown_fit = each_end (FitsShown secret) n.decisions d is.transfers.shown_fit (subst (λ (s : List ℕ). FitsShown s d) is.shared (shown-fits n d fine fit.content_fits));
+        offers_fit = is.transfers.offers_fit;
+        table_fits = is.transfers.table_fits;
+        fetch_fits = is.transfers.fetch_fits;
+      };
+    }
+fit-kept secret n (changes.StateOffer o) fine fit is =
+    record {
+      named = is.named;
+      shared = is.shared;
+      view = is.view;
+      views = is.views;
+      regency = is.regency;
+      lines = is.lines;
+      pool = is.pool;
+      arrivals = is.arrivals;
+      told = is.told;
+      begun = is.begun;
+      book = is.book;
+      waiting = is.waiting;
+      held = is.held;
+      service = is.service;
+      transfers = record {
+        small = is.transfers.small;
+        owned = is.transfers.owned;
+        shown_fit = is.transfers.shown_fit;
+        offers_fit = each_end (λ (x : StateOffer). Each (FitsStated secret) x.marks) n.offers (verified_offer n.secret o) is.transfers.offers_fit
+            (subst (λ (s : List ℕ). Each (FitsStated s) (verified_offer n.secret o).marks) is.shared (offered-fit n.secret o.marks fit.content_fits.marks_fit.1));
+        table_fits = is.transfers.table_fits;
+        fetch_fits = is.transfers.fetch_fits;
+      };
+    }
+fit-kept secret n (changes.StatePart p) fine fit is =
+    record {
+      named = is.named;
+      shared = is.shared;
+      view = is.view;
+      views = is.views;
+      regency = is.regency;
+      lines = is.lines;
+      pool = is.pool;
+      arrivals = is.arrivals;
+      told = is.told;
+      begun = is.begun;
+      book = is.book;
+      waiting = is.waiting;
+      held = is.held;
+      service = is.service;
+      transfers = record {
+        small = is.transfers.small;
+        owned = is.transfers.owned;
+        shown_fit = is.transfers.shown_fit;
+        offers_fit = is.transfers.offers_fit;
+        table_fits = is.transfers.table_fits;
+        fetch_fits = part-kept p n.fetch is.transfers.fetch_fits;
+      };
     }
 fit-kept secret n _ fine fit is = is
 
@@ -481,20 +729,11 @@ fit-answer_line secret n None fit is = is
 fit-answer_line secret n (Some line) fit is =
     fit-holding secret n (targets.Client line.client) (reply_of n.secret n.id line) (line-good secret n.secret n.id line is.shared is.named fit) is
 
-pub fit-answers_again : {S : Type 0} {m : Meaning S} (secret : List ℕ) (n : Node S) (asked : Option Asked) → FitNode m secret n → FitNode m secret (answers_again n asked)
+pub fit-answers_again : {S : Type 0} {m : Meaning S} (secret : List ℕ) (n : Node S) (asked : Asked) → FitNode m secret n → FitNode m secret (answers_again n asked)
 unfolding answers_again
 fit-answers_again secret n asked is = fit-answer_line secret n (answering n asked) (answering-each FitsLine n asked is.lines) is
 
 -- ---- deliver
-
--- replies in the states that the service comes to have at most 4,096 bytes
-abbrev pub IsBrief : {S : Type 0} → Meaning S → Type 0
-IsBrief {S} m = (s : S) (op : List ℕ) → Comes m s → length (m.reply s op) ≤ 4096
-
--- replies in valid states have
-pub brief_where : {S : Type 0} (m : Meaning S) (valid : S → Type 0) → valid m.first → ((s : S) (op : List ℕ) → valid s → valid (m.next s op))
-    → ((s : S) (bytes : List ℕ) → IsBytes bytes → m.restore bytes ≡ Some s → valid s) → ((s : S) (op : List ℕ) → valid s → length (m.reply s op) ≤ 4096) → IsBrief m
-brief_where m valid first next restored brief s op is = brief s op (comes_valid m valid first next restored s is)
 
 -- the line of a request that is executed
 line_made-fits : {S : Type 0} (m : Meaning S) → IsBrief m → (r : Replica S) (index : ℕ) (q : SignedBy Request) → (present r.views).number < 2 ^ 32 → IsCount r.place → index < 2 ^ 16 → Comes m r.service
@@ -507,7 +746,7 @@ line_made-fits m brief r index q view place low come fit =
         index = low;
         client = fit.statement_fits.client_fits;
         seq = fit.statement_fits.seq_fits;
-        reply = brief r.service q.statement.op come;
+        reply = brief.brief r.service q.statement.op come;
       },
       tt,
     ) tt
@@ -524,14 +763,14 @@ lines_of-fit m brief r index (q ∷ qs) view place few come all =
     (valid_execute m (Comes m) comes_next r index q.statement come) all.1)
 
 -- the lines of a batch
-executed_lines-fit : {S : Type 0} (m : Meaning S) → IsBrief m → (n : Node S) (batch : Batch) → (view_of n).number < 2 ^ 32 → FitsAt (next_place n) batch → Comes m n.replica.service
+executed_lines-fit : {S : Type 0} (m : Meaning S) → IsBrief m → (n : Node S) (batch : Batch) → (view_of n).number < 2 ^ 32 → FitsWaiting (next_place n) batch → Comes m n.replica.service
     → Each FitsLine (executed_lines m n.replica batch)
 unfolding executed_lines
 executed_lines-fit m brief n batch view fit come =
-    lines_of-fit m brief (at_next n.replica) 0 batch view (omega arith, fit.1) (omega (arith, fit.0.count_fits.1)) come fit.0.each_fits
+    lines_of-fit m brief (at_next n.replica) 0 batch view (omega arith, fit.1) (let few = fit.0.0.count_fits.1 in omega (arith, few)) come fit.0.0.each_fits
 
 -- the lines that a node answers with
-lines_to_answer-fit : {S : Type 0} (m : Meaning S) → IsBrief m → (n : Node S) (batch : Batch) → (view_of n).number < 2 ^ 32 → FitsAt (next_place n) batch → Comes m n.replica.service
+lines_to_answer-fit : {S : Type 0} (m : Meaning S) → IsBrief m → (n : Node S) (batch : Batch) → (view_of n).number < 2 ^ 32 → FitsWaiting (next_place n) batch → Comes m n.replica.service
     → Each FitsLine (lines_to_answer m n batch)
 lines_to_answer-fit m brief n batch view fit come =
     either (λ (lines : List Execution). Each FitsLine lines) (is_member (view_of n) n.id) (executed_lines m n.replica batch) [] (executed_lines-fit m brief n batch view fit come) tt
@@ -543,7 +782,7 @@ delivered-view m r batch = ap present (views_delivered m r batch)
 regency-view : (v w : View) (es : List LogEntry) → w ≡ v → greatest_regency v.number es < 2 ^ 32 → greatest_regency w.number es < 2 ^ 32
 regency-view v w es same low = subst (λ (x : View). greatest_regency x.number es < 2 ^ 32) (sym same) low
 
-fit-deliver_batch : {S : Type 0} (secret : List ℕ) (m : Meaning S) → IsBrief m → (n : Node S) (batch : Option Batch) → ForBatch batch (FitsAt (next_place n)) → FitNode m secret n → FitNode m secret (deliver_batch m n batch)
+fit-deliver_batch : {S : Type 0} (secret : List ℕ) (m : Meaning S) → IsBrief m → (n : Node S) (batch : Option Batch) → ForBatch batch (FitsWaiting (next_place n)) → FitNode m secret n → FitNode m secret (deliver_batch m n batch)
 unfolding deliver_batch regency_of
 fit-deliver_batch secret m brief n None fit is = is
 fit-deliver_batch secret m brief n (Some batch) fit is =
@@ -567,6 +806,14 @@ fit-deliver_batch secret m brief n (Some batch) fit is =
       waiting = tt;
       held = is.held;
       service = valid_delivered m (Comes m) comes_next n.replica batch is.service;
+      transfers = record {
+        small = small-delivered m brief n.replica batch low fit.1 fit.0 is.transfers.small;
+        owned = is.transfers.owned;
+        shown_fit = is.transfers.shown_fit;
+        offers_fit = is.transfers.offers_fit;
+        table_fits = is.transfers.table_fits;
+        fetch_fits = is.transfers.fetch_fits;
+      };
     })
 
 pub fit-delivers : {S : Type 0} (secret : List ℕ) (m : Meaning S) → IsBrief m → (n : Node S) → FitNode m secret n → FitNode m secret (delivers m n)
@@ -618,18 +865,35 @@ vote-fits kind member slot digest b is fit =
       tag_fits = fit.tag_fits;
     }
 
+-- a vote of a kind, with its member's tag
+abbrev FitsGiven : List ℕ → VoteKind → SignedBy Ballot → Type 0
+FitsGiven secret kind b = FitsSigned (votes_of kind) (λ signer. FitsVote kind) b × (is_verified ballots secret b ≡ true)
+
 vote_for-fits : (secret : List ℕ) (kind : VoteKind) (slot : Slot) (digest : List ℕ) (member : ℕ) (m : Message) → FitsArrival secret m
-    → IfSome (vote_for kind slot digest member m) (FitsSigned (votes_of kind) (λ signer. FitsVote kind))
+    → IfSome (vote_for kind slot digest member m) (FitsGiven secret kind)
 vote_for-fits secret kind slot digest member (Vote b) fit =
-    if_cond (FitsSigned (votes_of kind) (λ signer. FitsVote kind)) (is_vote kind member slot digest (Vote b)) (Some b) (λ is. vote-fits kind member slot digest b is fit)
+    if_cond (FitsGiven secret kind) (is_vote kind member slot digest (Vote b)) (Some b) (λ is. (vote-fits kind member slot digest b is fit.0, fit.1))
 vote_for-fits secret kind slot digest member _ fit = tt
 
 first_vote-fits : (secret : List ℕ) (arrivals : List Message) (kind : VoteKind) (slot : Slot) (digest : List ℕ) (member : ℕ) → Each (FitsArrival secret) arrivals
-    → IfSome (first_vote arrivals kind slot digest member) (FitsSigned (votes_of kind) (λ signer. FitsVote kind))
+    → IfSome (first_vote arrivals kind slot digest member) (FitsGiven secret kind)
 first_vote-fits secret [] kind slot digest member each = tt
 first_vote-fits secret (m ∷ ms) kind slot digest member each =
-    if_or (FitsSigned (votes_of kind) (λ signer. FitsVote kind)) (vote_for kind slot digest member m) (first_vote ms kind slot digest member)
+    if_or (FitsGiven secret kind) (vote_for kind slot digest member m) (first_vote ms kind slot digest member)
     (vote_for-fits secret kind slot digest member m each.0) (first_vote-fits secret ms kind slot digest member each.1)
+
+certificate-given : (secret : List ℕ) (arrivals : List Message) (view : View) (kind : VoteKind) (slot : Slot) (digest : List ℕ) → Each (FitsArrival secret) arrivals
+    → Each (FitsGiven secret kind) (certificate_votes arrivals view kind slot digest)
+certificate-given secret arrivals view kind slot digest each =
+    each_given (λ (m : ℕ). Unit {0}) (FitsGiven secret kind) (first_vote arrivals kind slot digest)
+    (λ member any. first_vote-fits secret arrivals kind slot digest member each) (certificate arrivals view kind slot digest) (each_any (certificate arrivals view kind slot digest))
+
+-- each of which bears its member's tag
+certificate-voted : (secret : List ℕ) (arrivals : List Message) (view : View) (kind : VoteKind) (slot : Slot) (digest : List ℕ) → Each (FitsArrival secret) arrivals
+    → Each (λ b. is_verified ballots secret b ≡ true) (certificate_votes arrivals view kind slot digest)
+certificate-voted secret arrivals view kind slot digest each =
+    each-weaken (FitsGiven secret kind) (λ b. is_verified ballots secret b ≡ true) (λ b given. given.1) (certificate_votes arrivals view kind slot digest)
+    (certificate-given secret arrivals view kind slot digest each)
 
 pub certificate-fits : (secret : List ℕ) (arrivals : List Message) (view : View) (kind : VoteKind) (slot : Slot) (digest : List ℕ) → is_view view ≡ true → Each (FitsArrival secret) arrivals
     → FitVotes kind (certificate_votes arrivals view kind slot digest)
@@ -641,8 +905,8 @@ certificate-fits secret arrivals view kind slot digest is each =
     record {
       few = omega (arith, members, passing, first, votes);
       all = each_all (FitsSigned (votes_of kind) (λ signer. FitsVote kind)) (certificate_votes arrivals view kind slot digest)
-          (each_given (λ (m : ℕ). Unit {0}) (FitsSigned (votes_of kind) (λ signer. FitsVote kind)) (first_vote arrivals kind slot digest)
-          (λ member any. first_vote-fits secret arrivals kind slot digest member each) (certificate arrivals view kind slot digest) (each_any (certificate arrivals view kind slot digest)));
+          (each-weaken (FitsGiven secret kind) (FitsSigned (votes_of kind) (λ signer. FitsVote kind)) (λ b given. given.0) (certificate_votes arrivals view kind slot digest)
+          (certificate-given secret arrivals view kind slot digest each));
     }
 
 -- ---- changes of the regency
@@ -707,6 +971,7 @@ fit-adopts_by secret n (Some sync) begun is =
       waiting = is.waiting;
       held = is.held;
       service = is.service;
+      transfers = is.transfers;
     }
 
 pub fit-adopts : {S : Type 0} {m : Meaning S} (secret : List ℕ) (n : Node S) → FitNode m secret n → FitNode m secret (adopts n)
@@ -726,8 +991,8 @@ last-low secret (e ∷ es) each = let rest = last-low secret es each.1 in let on
     entry-low secret (entries.Promised p) fit = omega arith
     entry-low secret (entries.Synced s) fit = omega arith
     entry-low secret (entries.Decided d) fit = fit.place_fits.1
-    entry-low secret (entries.Installed i) fit = absurd fit
-    entry-low secret (entries.Marked m) fit = absurd fit
+    entry-low secret (entries.Installed i) fit = fit.place_fits.1
+    entry-low secret (entries.Marked m) fit = omega arith
 
 -- entries make a place, or the last one is 0
 last-made : (es : List LogEntry) → (last_made es ≡ 0) ⊎ HasMade es (last_made es)
@@ -759,13 +1024,13 @@ each_there secret (x ∷ xs) e each (inr there) = each_there secret xs e each.1 
 -- what a book shows of its last place
 evidence-made : (secret : List ℕ) (last : ℕ) (e : LogEntry) → FitsEntry secret e → place_made e ≡ Some last → FitEvidence last (evidence_of digest_of (Some e))
 evidence-made secret last (entries.Decided d) fit made = ((fit.view_fits, fit.regency_fits), (digest_of-length d.batch, fit.accepts_fit))
-evidence-made secret last (entries.Installed i) fit made = absurd fit
+evidence-made secret last (entries.Installed i) fit made = (fit.view_fits, (fit.digest_fits, fit.marks_fit))
 evidence-made secret last (entries.Opened o) fit made = absurd (cc)
 evidence-made secret last (entries.Wrote w) fit made = absurd (cc)
 evidence-made secret last (entries.Accepted a) fit made = absurd (cc)
 evidence-made secret last (entries.Promised p) fit made = absurd (cc)
 evidence-made secret last (entries.Synced s) fit made = absurd (cc)
-evidence-made secret last (entries.Marked m) fit made = absurd fit
+evidence-made secret last (entries.Marked m) fit made = absurd (cc)
 
 evidence-good : (secret : List ℕ) (es : List LogEntry) (maker : Option LogEntry) → last_maker es ≡ maker → Each (FitsEntry secret) es → FitEvidence (last_made es) (evidence_of digest_of maker)
 evidence-good secret es None is each =
@@ -794,7 +1059,7 @@ lock-good secret (Some a) fit = (fit.regency_fits, (fit.digest_fits, fit.writes_
 
 lock-batch : (secret : List ℕ) (lock : Option accept.Accept) → IfSome lock (FitsAccept secret) → FitsSome secret (option_map (λ (a : accept.Accept). a.batch) lock)
 lock-batch secret None fit = tt
-lock-batch secret (Some a) fit = fit.batch_fits
+lock-batch secret (Some a) fit = (fit.batch_fits.0.0, fit.batch_fits.1)
 
 -- what a node reports
 report_of-fits : {S : Type 0} {m : Meaning S} (secret : List ℕ) (n : Node S) (regency : ℕ) → regency < 2 ^ 32 → FitNode m secret n → FitReport (report_of n regency)
@@ -889,22 +1154,73 @@ fit-passes_on : {S : Type 0} {m : Meaning S} (secret : List ℕ) (n : Node S) (p
 fit-passes_on secret n [] each is = is
 fit-passes_on secret n (q ∷ qs) each is = fit-holding secret n (targets.Node (leader (view_of n) (regency_of n))) (Ask q) (ask-good secret q each.0.fits each.0.tagged) is
 
+-- where a node does not lag, only pressure makes it act
+pressed_only : (lag rest : Bool) → lag ≡ false → (lag || rest) ≡ true → rest ≡ true
+pressed_only true rest none is = absurd (cc)
+pressed_only false rest none is = is
+
 -- an impatient node asks for the next regency where there is one
 timing-low : {S : Type 0} (n : Node S) (impatient : Bool) → (is_pressed n && (not impatient || nat_lt (regency_of n + 1) (2 ^ 32))) ≡ true → impatient ≡ true → regency_of n + 1 < 2 ^ 32
 timing-low n true is same = ltb-true (regency_of n + 1) (2 ^ 32) (and_true (is_pressed n) (nat_lt (regency_of n + 1) (2 ^ 32)) is).1
 timing-low n false is same = absurd (cc)
 
-fit-presses : {S : Type 0} {m : Meaning S} (secret : List ℕ) (n : Node S) → timing n ≡ true → FitNode m secret n → FitNode m secret (presses n)
+fit-presses : {S : Type 0} {m : Meaning S} (secret : List ℕ) (n : Node S) → lags n ≡ false → timing n ≡ true → FitNode m secret n → FitNode m secret (presses n)
 unfolding presses timing
-fit-presses {S = S} {m = m} secret n due is =
+fit-presses {S = S} {m = m} secret n level due is =
     let x : Node S = record n { impatient = true } in
     either_by (λ (y : Node S). FitNode m secret y) n.impatient (asks_next n) (passes_on x n.pool)
-    (λ impatient. asks-fit secret n (timing-low n n.impatient due impatient) is)
+    (λ impatient. asks-fit secret n (timing-low n n.impatient (pressed_only (lags n) (is_pressed n && (not n.impatient || nat_lt (regency_of n + 1) (2 ^ 32))) level due) impatient) is)
     (λ patient. fit-passes_on secret x n.pool is.pool (fit-as secret n n.firm n.proposed n.stop_made n.sync_made true n.behind is))
+
+-- a node that keeps other things of what others know
+fit-known : {S : Type 0} {m : Meaning S} (secret : List ℕ) (n : Node S) (offers : List StateOffer) (fetch : Option Fetch) (behind : Bool) → Each (λ (o : StateOffer). Each (FitsStated secret) o.marks) offers
+    → IfSome fetch FitsFetch → FitNode m secret n → FitNode m secret (record n { offers = offers; fetch = fetch; behind = behind })
+unfolding regency_of
+fit-known secret n offers fetch behind fits takes is =
+    record {
+      named = is.named;
+      shared = is.shared;
+      view = is.view;
+      views = is.views;
+      regency = is.regency;
+      lines = is.lines;
+      pool = is.pool;
+      arrivals = is.arrivals;
+      told = is.told;
+      begun = is.begun;
+      book = is.book;
+      waiting = is.waiting;
+      held = is.held;
+      service = is.service;
+      transfers = record {
+        small = is.transfers.small;
+        owned = is.transfers.owned;
+        shown_fit = is.transfers.shown_fit;
+        offers_fit = fits;
+        table_fits = is.transfers.table_fits;
+        fetch_fits = takes;
+      };
+    }
+
+member-named : (id : ℕ) → IsSigner 1 id → IsMember id
+member-named id named = (let least = named.0 in omega (arith, least), named.1)
+
+-- an ask for state may leave
+asked-good : {S : Type 0} {m : Meaning S} (secret : List ℕ) (n : Node S) (fetch : ℕ) → fetch < 2 ^ 63 → FitNode m secret n → IsGood secret (state_ask n fetch)
+asked-good secret n fetch low is =
+    ask_state-good secret (record { member = n.id; place = n.replica.place; fetch = fetch }) (member-named n.id is.named) is.transfers.small.place_fits low
+
+fit-asks_state : {S : Type 0} {m : Meaning S} (secret : List ℕ) (n : Node S) → FitNode m secret n → FitNode m secret (asks_state n)
+unfolding asks_state
+fit-asks_state {S = S} secret n is =
+    let x : Node S = record n { offers = []; fetch = None; behind = false } in
+    fit-holding secret x targets.View (state_ask n 0) (asked-good secret n 0 (omega arith) is) (fit-known secret n [] None false tt tt is)
 
 pub fit-times : {S : Type 0} {m : Meaning S} (secret : List ℕ) (n : Node S) → FitNode m secret n → FitNode m secret (times n)
 unfolding times
-fit-times {S = S} {m = m} secret n is = either_by (λ (x : Node S). FitNode m secret x) (timing n) (presses n) n (λ due. fit-presses secret n due is) (λ not_due. is)
+fit-times {S = S} {m = m} secret n is =
+    either_by (λ (x : Node S). FitNode m secret x) (lags n) (asks_state n) _ (λ lag. fit-asks_state secret n is)
+    (λ level. either_by (λ (x : Node S). FitNode m secret x) (timing n) (presses n) n (λ due. fit-presses secret n level due is) (λ not_due. is))
 
 -- ---- propose, write and accept
 
@@ -962,20 +1278,20 @@ batch_in-fits secret view s digest (Some r) fit =
     lock-there secret digest r.head.statement.lock r.batch two.1 fit.0.locked
 
 -- the batches that the book names
-named_by-fits : (secret : List ℕ) (view place : ℕ) (e : LogEntry) → FitsEntry secret e → IfSome (named_by view place e) (λ (x : Named). FitsSending secret x.batch)
+named_by-fits : (secret : List ℕ) (view place : ℕ) (e : LogEntry) → FitsEntry secret e → IfSome (named_by view place e) (λ (x : Named). FitsKnown secret x.batch)
 named_by-fits secret view place e fit =
-    if_map (λ (x : Named). FitsSending secret x.batch) (λ (a : accept.Accept). record { digest = a.digest; batch = a.batch }) (accept_for view place e)
-    (if_weaker (FitsAccept secret) (λ a. FitsSending secret a.batch) (λ a is. is.batch_fits) (accept_for view place e) (accept_for-fits secret view place e fit))
+    if_map (λ (x : Named). FitsKnown secret x.batch) (λ (a : accept.Accept). record { digest = a.digest; batch = a.batch }) (accept_for view place e)
+    (if_weaker (FitsAccept secret) (λ a. FitsKnown secret a.batch) (λ a is. is.batch_fits) (accept_for view place e) (accept_for-fits secret view place e fit))
 
 accepted_under-fits : (secret : List ℕ) (view place : ℕ) (digest : List ℕ) (es : List LogEntry) → Each (FitsEntry secret) es → ForBatch (accepted_under view place digest es) (FitsSending secret)
 accepted_under-fits secret view place digest es each =
     named (find (λ (x : Named). same_bytes x.digest digest) (filter_map (named_by view place) es))
-    (if_find (λ (x : Named). FitsSending secret x.batch) (λ (x : Named). same_bytes x.digest digest) (filter_map (named_by view place) es)
-    (each_given (FitsEntry secret) (λ (x : Named). FitsSending secret x.batch) (named_by view place) (named_by-fits secret view place) es each))
+    (if_find (λ (x : Named). FitsKnown secret x.batch) (λ (x : Named). same_bytes x.digest digest) (filter_map (named_by view place) es)
+    (each_given (FitsEntry secret) (λ (x : Named). FitsKnown secret x.batch) (named_by view place) (named_by-fits secret view place) es each))
   where
-    named : (o : Option Named) → IfSome o (λ (x : Named). FitsSending secret x.batch) → ForBatch (option_map (λ (x : Named). x.batch) o) (FitsSending secret)
+    named : (o : Option Named) → IfSome o (λ (x : Named). FitsKnown secret x.batch) → ForBatch (option_map (λ (x : Named). x.batch) o) (FitsSending secret)
     named None fit = tt
-    named (Some x) fit = fit
+    named (Some x) fit = (fit.0.0, fit.1)
 
 batch_under-fits : {S : Type 0} {m : Meaning S} (secret : List ℕ) (n : Node S) (bound : Option (List ℕ)) → FitNode m secret n → ForBatch (batch_under n bound) (FitsSending secret)
 unfolding batch_under bound_batch
@@ -1020,25 +1336,25 @@ ballot-good secret n kind digest low long is =
 -- a proposal that may get the node's vote
 pub record FitsVoted (secret : List ℕ) (place : ℕ) (p : Proposed) : Type 0 where
   pub low : place < 2 ^ 63
-  pub batch_fits : FitsSending secret p.batch
+  pub batch_fits : FitsKnown secret p.batch
   pub digest_fits : length p.head.statement.digest ≡ 32
 
 proposed_in-fits : (secret : List ℕ) (slot : Slot) (message : Message) → FitsArrival secret message
-    → IfSome (proposed_in slot message) (λ (p : Proposed). FitsSending secret p.batch × (length p.head.statement.digest ≡ 32))
+    → IfSome (proposed_in slot message) (λ (p : Proposed). FitsKnown secret p.batch × (length p.head.statement.digest ≡ 32))
 proposed_in-fits secret slot (Propose p) fit =
-    if_cond (λ (x : Proposed). FitsSending secret x.batch × (length x.head.statement.digest ≡ 32)) (same_slot p.head.statement.slot slot) (Some p) (λ is. fit)
+    if_cond (λ (x : Proposed). FitsKnown secret x.batch × (length x.head.statement.digest ≡ 32)) (same_slot p.head.statement.slot slot) (Some p) (λ is. fit)
 proposed_in-fits secret slot _ fit = tt
 
 proposed_for-fits : (secret : List ℕ) (slot : Slot) (arrivals : List Message) → Each (FitsArrival secret) arrivals
-    → IfSome (proposed_for arrivals slot) (λ (p : Proposed). FitsSending secret p.batch × (length p.head.statement.digest ≡ 32))
+    → IfSome (proposed_for arrivals slot) (λ (p : Proposed). FitsKnown secret p.batch × (length p.head.statement.digest ≡ 32))
 proposed_for-fits secret slot [] each = tt
 proposed_for-fits secret slot (x ∷ xs) each =
-    if_or (λ (p : Proposed). FitsSending secret p.batch × (length p.head.statement.digest ≡ 32)) (proposed_in slot x) (proposed_for xs slot) (proposed_in-fits secret slot x each.0) (proposed_for-fits secret slot xs each.1)
+    if_or (λ (p : Proposed). FitsKnown secret p.batch × (length p.head.statement.digest ≡ 32)) (proposed_in slot x) (proposed_for xs slot) (proposed_in-fits secret slot x each.0) (proposed_for-fits secret slot xs each.1)
 
 voted-fits : {S : Type 0} {m : Meaning S} (secret : List ℕ) (n : Node S) → next_place n < 2 ^ 63 → FitNode m secret n → IfSome (votable n (proposed_for n.arrivals (open_slot n))) (FitsVoted secret (next_place n))
 voted-fits secret n low is =
     votable-if (FitsVoted secret (next_place n)) n (proposed_for n.arrivals (open_slot n))
-    (if_weaker (λ (p : Proposed). FitsSending secret p.batch × (length p.head.statement.digest ≡ 32)) (FitsVoted secret (next_place n))
+    (if_weaker (λ (p : Proposed). FitsKnown secret p.batch × (length p.head.statement.digest ≡ 32)) (FitsVoted secret (next_place n))
     (λ p fit. record { low = low; batch_fits = fit.0; digest_fits = fit.1 }) (proposed_for n.arrivals (open_slot n)) (proposed_for-fits secret (open_slot n) n.arrivals is.arrivals))
 
 pub writing-fits : {S : Type 0} {m : Meaning S} (secret : List ℕ) (n : Node S) → FitNode m secret n → IfSome (writing n) (FitsVoted secret (next_place n))
@@ -1089,49 +1405,90 @@ fit-accepts secret n is = fit-accept_batch secret n (accepting n) (accepting-fit
 -- ---- decide
 
 -- the batches that a node has for a place
-named_in-fits : (secret : List ℕ) (view place regency : ℕ) (message : Message) → FitsArrival secret message → IfSome (named_in view place regency message) (λ (x : Named). FitsSending secret x.batch)
+named_in-fits : (secret : List ℕ) (view place regency : ℕ) (message : Message) → FitsArrival secret message → IfSome (named_in view place regency message) (λ (x : Named). FitsKnown secret x.batch)
 named_in-fits secret view place regency (Propose p) fit =
     let slot : Slot = p.head.statement.slot in
-    if_cond (λ (x : Named). FitsSending secret x.batch) (((slot.view == view) && (slot.place == place)) && nat_le regency slot.regency) (Some (record { digest = p.head.statement.digest; batch = p.batch })) (λ is. fit.0)
+    if_cond (λ (x : Named). FitsKnown secret x.batch) (((slot.view == view) && (slot.place == place)) && nat_le regency slot.regency) (Some (record { digest = p.head.statement.digest; batch = p.batch })) (λ is. fit.0)
 named_in-fits secret view place regency _ fit = tt
 
 known-fits : (secret : List ℕ) (view place regency : ℕ) (arrivals : List Message) (es : List LogEntry) → Each (FitsArrival secret) arrivals → Each (FitsEntry secret) es
-    → Each (λ (x : Named). FitsSending secret x.batch) (known view place regency arrivals es)
+    → Each (λ (x : Named). FitsKnown secret x.batch) (known view place regency arrivals es)
 known-fits secret view place regency arrivals es came book =
-    each_append (λ (x : Named). FitsSending secret x.batch) (filter_map (named_in view place regency) arrivals) (filter_map (named_by view place) es)
-    (each_given (FitsArrival secret) (λ (x : Named). FitsSending secret x.batch) (named_in view place regency) (named_in-fits secret view place regency) arrivals came)
-    (each_given (FitsEntry secret) (λ (x : Named). FitsSending secret x.batch) (named_by view place) (named_by-fits secret view place) es book)
+    each_append (λ (x : Named). FitsKnown secret x.batch) (filter_map (named_in view place regency) arrivals) (filter_map (named_by view place) es)
+    (each_given (FitsArrival secret) (λ (x : Named). FitsKnown secret x.batch) (named_in view place regency) (named_in-fits secret view place regency) arrivals came)
+    (each_given (FitsEntry secret) (λ (x : Named). FitsKnown secret x.batch) (named_by view place) (named_by-fits secret view place) es book)
 
-decision_by-fits : {S : Type 0} {m : Meaning S} (secret : List ℕ) (n : Node S) (regency : ℕ) (found : Option Named) → next_place n < 2 ^ 63 → regency < 2 ^ 32 → FitNode m secret n → IfSome found (λ (x : Named). FitsSending secret x.batch)
-    → IfSome (decision_by (view_of n) (slot_in n regency) n.arrivals found) FitsDecision
+decision_by-fits : {S : Type 0} {m : Meaning S} (secret : List ℕ) (n : Node S) (regency : ℕ) (found : Option Named) → next_place n < 2 ^ 63 → regency < 2 ^ 32 → FitNode m secret n → IfSome found (λ (x : Named). FitsKnown secret x.batch)
+    → IfSome (decision_by (view_of n) (slot_in n regency) n.arrivals found) (FitsDecision secret)
 decision_by-fits secret n regency None low small is fit = tt
 decision_by-fits secret n regency (Some x) low small is fit = record {
   view_fits = view-low (view_of n) is.view;
   place_fits = (omega arith, low);
   regency_fits = small;
   accepts_fit = certificate-fits secret n.arrivals (view_of n) Accept (slot_in n regency) x.digest is.view is.arrivals;
-  batch_fits = fit.0;
+  voted = certificate-voted secret n.arrivals (view_of n) Accept (slot_in n regency) x.digest is.arrivals;
+  batch_fits = fit;
 }
 
-decision_in-fits : {S : Type 0} {m : Meaning S} (secret : List ℕ) (n : Node S) (regency : ℕ) → next_place n < 2 ^ 63 → regency < 2 ^ 32 → FitNode m secret n → IfSome (decision_in n regency) FitsDecision
+decision_in-fits : {S : Type 0} {m : Meaning S} (secret : List ℕ) (n : Node S) (regency : ℕ) → next_place n < 2 ^ 63 → regency < 2 ^ 32 → FitNode m secret n → IfSome (decision_in n regency) (FitsDecision secret)
 unfolding decision_in
 decision_in-fits secret n regency low small is =
     decision_by-fits secret n regency _ low small is
-    (if_find (λ (x : Named). FitsSending secret x.batch) _ (known (view_of n).number (next_place n) (regency_of n) n.arrivals n.entries)
+    (if_find (λ (x : Named). FitsKnown secret x.batch) _ (known (view_of n).number (next_place n) (regency_of n) n.arrivals n.entries)
     (known-fits secret (view_of n).number (next_place n) (regency_of n) n.arrivals n.entries is.arrivals is.book))
 
-pub deciding-fits : {S : Type 0} {m : Meaning S} (secret : List ℕ) (n : Node S) → FitNode m secret n → IfSome (deciding n) (λ d. FitsDecision d × (next_place n < 2 ^ 63))
+-- a decision that others showed
+shown_regency : (bs : List (SignedBy Ballot)) → Each (FitsSigned (votes_of Accept) (λ signer. FitsVote Accept)) bs → regency_by bs < 2 ^ 32
+shown_regency [] each = omega arith
+shown_regency (b ∷ bs) each = each.0.statement_fits.ballot_fits.slot_fits.regency_fits
+
+find_each : {A : Type 0} (P : A → Type 0) (p : A → Bool) (xs : List A) (ms : List ℕ) (f : ℕ → A → Bool) → Each P xs → Each P (filter_map (λ member. find (f member) xs) ms)
+find_each P p xs ms f each =
+    each_given (λ (member : ℕ). Unit {0}) P (λ member. find (f member) xs) (λ member any. if_find P (f member) xs each) ms (each_any ms)
+
+shown_few : (v : View) (bs : List (SignedBy Ballot)) → is_view v ≡ true → length (first_votes v bs) ≤ 31
+shown_few v bs is =
+    let members = members-few v is in
+    let some = length-filter (has_signed bs) v.members in
+    let front = length-take (quorum v) (filter (has_signed bs) v.members) in
+    let votes = length-filter_map (λ member. find (λ (b : SignedBy Ballot). b.signer == member) bs) (first_quorum v (has_signed bs)) in
+    omega (arith, members, some, front, votes)
+
+decision_shown-fits : {S : Type 0} {m : Meaning S} (secret : List ℕ) (n : Node S) (d : ProvenBatch) → FitNode m secret n → FitsShown secret d → FitsDecision secret (decision_shown n d)
+decision_shown-fits secret n d is fit =
+    let member_of : ℕ → SignedBy Ballot → Bool = λ member b. b.signer == member in
+    let named : List ℕ = first_quorum (view_of n) (has_signed d.accepts) in
+    record {
+      view_fits = view-low (view_of n) is.view;
+      place_fits = fit.place_fits;
+      regency_fits = shown_regency d.accepts fit.accepts_fit;
+      accepts_fit = record {
+        few = shown_few (view_of n) d.accepts is.view;
+        all = each_all (FitsSigned (votes_of Accept) (λ signer. FitsVote Accept)) (first_votes (view_of n) d.accepts)
+            (find_each (FitsSigned (votes_of Accept) (λ signer. FitsVote Accept)) (λ b. true) d.accepts named member_of fit.accepts_fit);
+      };
+      voted = find_each (λ b. is_verified ballots secret b ≡ true) (λ b. true) d.accepts named member_of fit.voted;
+      batch_fits = fit.batch_fits;
+    }
+
+pub deciding-fits : {S : Type 0} {m : Meaning S} (secret : List ℕ) (n : Node S) → FitNode m secret n → IfSome (deciding n) (λ d. FitsDecision secret d × (next_place n < 2 ^ 63))
 unfolding deciding
 deciding-fits secret n is =
-    if_cond (λ d. FitsDecision d × (next_place n < 2 ^ 63)) (is_free n) (or_else (decision_in n (regency_of n)) (decision_ahead n))
+    let P : Decision → Type 0 = FitsDecision secret in
+    let own : Option Decision = or_else (decision_in n (regency_of n)) (decision_ahead n) in
+    if_cond (λ d. P d × (next_place n < 2 ^ 63)) (is_free n) (or_else (option_map (decision_shown n) (shown_next n)) (or_else (decision_in n (regency_of n)) (decision_ahead n)))
     (λ free. let low = free-low n free in
-    if_weaker FitsDecision (λ d. FitsDecision d × (next_place n < 2 ^ 63)) (λ d fit. (fit, low)) (or_else (decision_in n (regency_of n)) (decision_ahead n))
-    (if_or FitsDecision (decision_in n (regency_of n)) (decision_ahead n) (decision_in-fits secret n (regency_of n) low is.regency is)
-    (if_cond FitsDecision (nat_lt (regency_of n + 1) (2 ^ 32)) (decision_in n (regency_of n + 1))
-    (λ room. decision_in-fits secret n (regency_of n + 1) low (ltb-true (regency_of n + 1) (2 ^ 32) room) is))))
+    if_weaker P (λ d. P d × (next_place n < 2 ^ 63)) (λ d fit. (fit, low)) (or_else (option_map (decision_shown n) (shown_next n)) (or_else (decision_in n (regency_of n)) (decision_ahead n)))
+    (if_or P (option_map (decision_shown n) (shown_next n)) own
+    (if_map P (decision_shown n) (shown_next n)
+    (if_weaker (FitsShown secret) (λ d. P (decision_shown n d)) (λ d fit. decision_shown-fits secret n d is fit) (shown_next n)
+    (if_find (FitsShown secret) (λ (d : ProvenBatch). d.place == next_place n) n.decisions is.transfers.shown_fit)))
+    (if_or P (decision_in n (regency_of n)) (decision_ahead n) (decision_in-fits secret n (regency_of n) low is.regency is)
+    (if_cond P (nat_lt (regency_of n + 1) (2 ^ 32)) (decision_in n (regency_of n + 1))
+    (λ room. decision_in-fits secret n (regency_of n + 1) low (ltb-true (regency_of n + 1) (2 ^ 32) room) is)))))
 
 -- a batch waits at the next place
-waits : {S : Type 0} {m : Meaning S} (secret : List ℕ) (n : Node S) (batch : Batch) → FitsAt (next_place n) batch → FitNode m secret n → FitNode m secret (record n { waiting = Some batch })
+waits : {S : Type 0} {m : Meaning S} (secret : List ℕ) (n : Node S) (batch : Batch) → FitsWaiting (next_place n) batch → FitNode m secret n → FitNode m secret (record n { waiting = Some batch })
 unfolding regency_of
 waits secret n batch fit is =
     record {
@@ -1149,17 +1506,403 @@ waits secret n batch fit is =
       waiting = fit;
       held = is.held;
       service = is.service;
+      transfers = is.transfers;
     }
 
-fit-decide_batch : {S : Type 0} {m : Meaning S} (secret : List ℕ) (n : Node S) (d : Option Decision) → IfSome d (λ x. FitsDecision x × (next_place n < 2 ^ 63)) → FitNode m secret n → FitNode m secret (decide_batch n d)
+fit-decide_batch : {S : Type 0} {m : Meaning S} (secret : List ℕ) (n : Node S) (d : Option Decision) → IfSome d (λ x. FitsDecision secret x × (next_place n < 2 ^ 63)) → FitNode m secret n → FitNode m secret (decide_batch n d)
 unfolding decide_batch
 fit-decide_batch secret n None fit is = is
 fit-decide_batch {S = S} secret n (Some d) fit is =
-    waits secret (recording n (entries.Decided d)) d.batch (fit.0.batch_fits, fit.1) (fit-recording secret n (entries.Decided d) (quiet-decided d) fit.0 is)
+    waits secret (recording n (entries.Decided d)) d.batch (fit.0.batch_fits.0, fit.1) (fit-recording secret n (entries.Decided d) (quiet-decided d) fit.0 is)
 
 pub fit-decides : {S : Type 0} {m : Meaning S} (secret : List ℕ) (n : Node S) → FitNode m secret n → FitNode m secret (decides n)
 unfolding decides
 fit-decides secret n is = fit-decide_batch secret n (deciding n) (deciding-fits secret n is) is
+
+-- ---- marks
+
+-- other snapshots of its own
+fit-taken : {S : Type 0} {m : Meaning S} (secret : List ℕ) (n : Node S) (taken : List OwnSnapshot) → Each FitsSnapshot taken → FitNode m secret n → FitNode m secret (record n { taken = n.taken ++ taken })
+unfolding regency_of
+fit-taken secret n taken fit is =
+    record {
+      named = is.named;
+      shared = is.shared;
+      view = is.view;
+      views = is.views;
+      regency = is.regency;
+      lines = is.lines;
+      pool = is.pool;
+      arrivals = is.arrivals;
+      told = is.told;
+      begun = is.begun;
+      book = is.book;
+      waiting = is.waiting;
+      held = is.held;
+      service = is.service;
+      transfers = record {
+        small = is.transfers.small;
+        owned = subst (λ (ss : List OwnSnapshot). Each FitsSnapshot ss) (append_assoc (option_to_list n.checkpoint) n.taken taken)
+            (each_append FitsSnapshot (own_snapshots n) taken is.transfers.owned fit);
+        shown_fit = is.transfers.shown_fit;
+        offers_fit = is.transfers.offers_fit;
+        table_fits = is.transfers.table_fits;
+        fetch_fits = is.transfers.fetch_fits;
+      };
+    }
+
+waiting-low : (place : ℕ) (waiting : Option Batch) → is_some waiting ≡ true → ForBatch waiting (FitsWaiting place) → place < 2 ^ 63
+waiting-low place None waits fit = absurd (cc)
+waiting-low place (Some batch) waits fit = fit.1
+
+-- the mark of a place that was just delivered
+pub delivered-mark : {S : Type 0} (secret : List ℕ) (m : Meaning S) (n : Node S) → is_some n.waiting ≡ true → FitNode m secret n → FitsMark (mark_of m (delivers m n))
+delivered-mark secret m n waits is =
+    let next : (delivers m n).replica.place ≡ n.replica.place + 1 = place-delivers m n waits in
+    let low : next_place n < 2 ^ 63 = waiting-low (next_place n) n.waiting waits is.waiting in
+    record { place_fits = (omega (arith, next), omega (arith, next, low)); digest_fits = digest-length (snapshot_text m (delivers m n).replica) }
+
+pub fit-mark : {S : Type 0} (secret : List ℕ) (m : Meaning S) → IsBrief m → (n : Node S) → FitsMark (mark_of m n) → FitNode m secret n → FitNode m secret (mark_place m n)
+unfolding mark_place
+fit-mark {S = S} secret m brief n fit is =
+    let entry : LogEntry = entries.Marked (mark_of m n) in
+    let good : IsGood secret (changes.Mark (signed marks n.secret n.id (mark_of m n))) =
+    subst (λ (s : List ℕ). IsGood secret (changes.Mark (signed marks s n.id (mark_of m n)))) (sym is.shared) (mark-good secret n.id (mark_of m n) is.named fit) in
+    let sent : Node S = holding (recording n entry) targets.View (changes.Mark (signed marks n.secret n.id (mark_of m n))) in
+    fit-taken secret sent (snapshots_due m sent)
+    (either (λ (ss : List OwnSnapshot). Each FitsSnapshot ss) (is_own_turn sent sent.replica.place) (own_snapshot m sent ∷ []) []
+    (record { place_fits = fit.place_fits; short = short_small m brief n.replica is.transfers.small }, tt) tt)
+    (fit-holding secret (recording n entry) targets.View (changes.Mark (signed marks n.secret n.id (mark_of m n))) good
+    (fit-recording secret n entry (quiet-marked (mark_of m n)) fit is))
+
+-- ---- state for others
+
+-- messages that may leave wait to leave
+fit-holding_all : {S : Type 0} {m : Meaning S} (secret : List ℕ) (n : Node S) (to : Target) (ms : List Message) → Each (IsGood secret) ms → FitNode m secret n → FitNode m secret (holding_all n to ms)
+fit-holding_all secret n to [] each is = is
+fit-holding_all secret n to (x ∷ xs) each is = fit-holding_all secret (holding n to x) to xs each.1 (fit-holding secret n to x each.0 is)
+
+last-fits : (ss : List OwnSnapshot) → Each FitsSnapshot ss → IfSome (last_taken ss) FitsSnapshot
+last-fits [] each = tt
+last-fits (s ∷ ss) each = if_or FitsSnapshot (last_taken ss) (Some s) (last-fits ss each.1) each.0
+
+newest-fits : {S : Type 0} {m : Meaning S} (secret : List ℕ) (n : Node S) → FitNode m secret n → IfSome (newest_firm n) FitsSnapshot
+unfolding newest_firm
+newest-fits secret n is = last-fits (filter (is_firm_snapshot n) (own_snapshots n)) (each_filter FitsSnapshot (is_firm_snapshot n) (own_snapshots n) is.transfers.owned)
+
+snapshot-place : (o : Option OwnSnapshot) → IfSome o FitsSnapshot → place_of_snapshot o < 2 ^ 63
+snapshot-place None fit = omega arith
+snapshot-place (Some s) fit = fit.place_fits.1
+
+snapshot-size : (o : Option OwnSnapshot) → IfSome o FitsSnapshot → size_of_snapshot o < 2 ^ 32
+snapshot-size None fit = omega arith
+snapshot-size (Some s) fit = let short = fit.short in omega (arith, short)
+
+-- the marks of an offer
+marked-fits : (secret : List ℕ) (e : LogEntry) → FitsEntry secret e → IfSome (mark_made e) FitsMark
+marked-fits secret (entries.Opened o) fit = tt
+marked-fits secret (entries.Wrote w) fit = tt
+marked-fits secret (entries.Accepted a) fit = tt
+marked-fits secret (entries.Promised p) fit = tt
+marked-fits secret (entries.Synced s) fit = tt
+marked-fits secret (entries.Decided d) fit = tt
+marked-fits secret (entries.Installed i) fit = tt
+marked-fits secret (entries.Marked k) fit = fit
+
+last_few-short : {A : Type 0} (most : ℕ) (xs : List A) → length (last_few most xs) ≤ most
+last_few-short most xs = let long = length-drop (length xs - most) xs in omega (arith, long)
+
+signed_all-fit : (secret : List ℕ) (id : ℕ) (ks : List Mark) → IsSigner 1 id → Each FitsMark ks → AllByRecursion (FitsSigned marks (λ signer. FitsMark)) (map (λ (k : Mark). signed marks secret id k) ks)
+signed_all-fit secret id [] named each = tt
+signed_all-fit secret id (k ∷ ks) named each =
+    (signed-fits marks (λ signer. FitsMark) secret id k named each.0 (mark_small k each.0.digest_fits), signed_all-fit secret id ks named each.1)
+
+signed_all-tagged : (secret : List ℕ) (id : ℕ) (ks : List Mark) → list_all (λ m. is_verified marks secret m) (map (λ (k : Mark). signed marks secret id k) ks) ≡ true
+signed_all-tagged secret id [] = refl
+signed_all-tagged secret id (k ∷ ks) =
+    and_from (is_verified marks secret (signed marks secret id k)) (list_all (λ m. is_verified marks secret m) (map (λ (j : Mark). signed marks secret id j) ks)) (signed-verified marks secret id k)
+    (signed_all-tagged secret id ks)
+
+offered-good : (secret : List ℕ) (id place size : ℕ) (ks : List Mark) → IsSigner 1 id → place < 2 ^ 63 → size < 2 ^ 32 → length ks ≤ 64 → Each FitsMark ks
+    → IsGood secret (changes.StateOffer (record { member = id; place = place; size = size; marks = map (λ (k : Mark). signed marks secret id k) ks }))
+offered-good secret id place size ks named low small few each =
+    offer-good secret (record { member = id; place = place; size = size; marks = map (λ (k : Mark). signed marks secret id k) ks }) (member-named id named) low small
+    (record { few = (let long = length-map ks (λ (k : Mark). signed marks secret id k) in omega (arith, long, few)); all = signed_all-fit secret id ks named each }) (signed_all-tagged secret id ks)
+
+offer_for-good : {S : Type 0} {m : Meaning S} (secret : List ℕ) (n : Node S) (place : ℕ) → FitNode m secret n → IsGood secret (changes.StateOffer (offer_for n place))
+unfolding offer_for
+offer_for-good secret n place is =
+    let ks : List Mark = last_few 64 (marks_past place n.entries) in
+    let newest = newest-fits secret n is in
+    subst (λ (s : List ℕ). IsGood secret (changes.StateOffer (record { member = n.id; place = place_of_snapshot (newest_firm n); size = size_of_snapshot (newest_firm n); marks = map (λ (k : Mark). signed marks s n.id k) (last_few 64 (marks_past place n.entries)) })))
+    (sym is.shared)
+    (offered-good secret n.id (place_of_snapshot (newest_firm n)) (size_of_snapshot (newest_firm n)) ks is.named (snapshot-place (newest_firm n) newest) (snapshot-size (newest_firm n) newest)
+    (last_few-short 64 (marks_past place n.entries))
+    (each_drop FitsMark (length (marks_past place n.entries) - 64) (marks_past place n.entries)
+    (each_filter FitsMark (λ (k : Mark). nat_lt place k.place) (filter_map mark_made n.entries) (each_given (FitsEntry secret) FitsMark mark_made (marked-fits secret) n.entries is.book))))
+
+-- the decisions that are shown
+decides_at-fits : (secret : List ℕ) (place : ℕ) (e : LogEntry) → FitsEntry secret e → IfSome (decides_at place e) (FitsDecision secret)
+decides_at-fits secret place (entries.Decided d) fit = if_cond (FitsDecision secret) (d.slot.place == place) (Some d) (λ is. fit)
+decides_at-fits secret place (entries.Opened o) fit = tt
+decides_at-fits secret place (entries.Wrote w) fit = tt
+decides_at-fits secret place (entries.Accepted a) fit = tt
+decides_at-fits secret place (entries.Promised p) fit = tt
+decides_at-fits secret place (entries.Synced s) fit = tt
+decides_at-fits secret place (entries.Installed i) fit = tt
+decides_at-fits secret place (entries.Marked k) fit = tt
+
+decided_at-fits : (secret : List ℕ) (place : ℕ) (es : List LogEntry) → Each (FitsEntry secret) es → IfSome (decided_at place es) (FitsDecision secret)
+decided_at-fits secret place [] each = tt
+decided_at-fits secret place (e ∷ es) each = if_or (FitsDecision secret) (decides_at place e) (decided_at place es) (decides_at-fits secret place e each.0) (decided_at-fits secret place es each.1)
+
+shown_at-good : {S : Type 0} {m : Meaning S} (secret : List ℕ) (n : Node S) (k : ℕ) → FitNode m secret n → IfSome (shown_at n k) (IsGood secret)
+shown_at-good secret n k is =
+    if_cond (IsGood secret) (is_shown_place n k) (option_map (λ (d : Decision). changes.Decision (shown_as d)) (decided_at k n.entries))
+    (λ may. if_map (IsGood secret) (λ (d : Decision). changes.Decision (shown_as d)) (decided_at k n.entries)
+    (if_weaker (FitsDecision secret) (λ (d : Decision). IsGood secret (changes.Decision (shown_as d)))
+    (λ d fit. decision-good secret (shown_as d) fit.place_fits fit.batch_fits.0.0 fit.accepts_fit fit.voted fit.batch_fits.1) (decided_at k n.entries) (decided_at-fits secret k n.entries is.book)))
+
+shown_after-good : {S : Type 0} {m : Meaning S} (secret : List ℕ) (n : Node S) (place : ℕ) → FitNode m secret n → Each (IsGood secret) (shown_after n place)
+unfolding shown_after
+shown_after-good secret n place is =
+    each_given (λ (k : ℕ). Unit {0}) (IsGood secret) (shown_at n) (λ k any. shown_at-good secret n k is) (places_after place 8) (each_any (places_after place 8))
+
+-- the parts of a snapshot
+seeds_to-good : (secret : List ℕ) (place : ℕ) (snapshot : List ℕ) (count : ℕ) → IsCount place → length snapshot ≤ 16777216 → count ≤ pieces snapshot
+    → Each (IsGood secret) (map (λ (p : StatePart). changes.StatePart p) (seeds_to place snapshot count))
+seeds_to-good secret place snapshot zero low short few = tt
+seeds_to-good secret place snapshot (suc count) low short few =
+    let front = seeds_to place snapshot count in
+    subst (λ (ms : List Message). Each (IsGood secret) ms) (sym (map-append (λ (p : StatePart). changes.StatePart p) front (seed place snapshot count ∷ [])))
+    (each_append (IsGood secret) (map (λ (p : StatePart). changes.StatePart p) front) (changes.StatePart (seed place snapshot count) ∷ [])
+    (seeds_to-good secret place snapshot count low short (omega (arith, few)))
+    (part-good secret (seed place snapshot count) low (omega (arith, few, short)) (omega (arith, short)) (piece_short snapshot count), tt))
+
+part_messages-good : (secret : List ℕ) (o : Option OwnSnapshot) → IfSome o FitsSnapshot → Each (IsGood secret) (part_messages o)
+unfolding seeds
+part_messages-good secret None fit = tt
+part_messages-good secret (Some s) fit = seeds_to-good secret s.place s.snapshot (pieces s.snapshot) fit.place_fits fit.short (omega arith)
+
+firm_at-fits : {S : Type 0} {m : Meaning S} (secret : List ℕ) (n : Node S) (place : ℕ) → FitNode m secret n → IfSome (firm_at n place) FitsSnapshot
+unfolding firm_at
+firm_at-fits secret n place is = if_find FitsSnapshot (λ (s : OwnSnapshot). is_firm_snapshot n s && (s.place == place)) (own_snapshots n) is.transfers.owned
+
+fit-offers_state : {S : Type 0} {m : Meaning S} (secret : List ℕ) (n : Node S) (a : StateAsk) → FitNode m secret n → FitNode m secret (offers_state n a)
+unfolding offers_state
+fit-offers_state secret n a is =
+    fit-holding_all secret n (targets.Node a.member) (changes.StateOffer (offer_for n a.place) ∷ shown_after n a.place)
+    (offer_for-good secret n a.place is, shown_after-good secret n a.place is) is
+
+fit-gives_parts : {S : Type 0} {m : Meaning S} (secret : List ℕ) (n : Node S) (a : StateAsk) → FitNode m secret n → FitNode m secret (gives_parts n a)
+unfolding gives_parts
+fit-gives_parts secret n a is =
+    fit-holding_all secret n (targets.Node a.member) (part_messages (firm_at n a.fetch)) (part_messages-good secret (firm_at n a.fetch) (firm_at-fits secret n a.fetch is)) is
+
+pub fit-answers_state : {S : Type 0} {m : Meaning S} (secret : List ℕ) (n : Node S) (a : StateAsk) → FitNode m secret n → FitNode m secret (answers_state n a)
+unfolding answers_state
+fit-answers_state {S = S} {m = m} secret n a is =
+    either (λ (x : Node S). FitNode m secret x) (a.fetch == 0) (offers_state n a) (gives_parts n a) (fit-offers_state secret n a is) (fit-gives_parts secret n a is)
+
+-- ---- state from others
+
+-- a mark states a place and a digest that a plan may be of
+first-mark : (place : ℕ) (digest : List ℕ) (ms : List (SignedBy Mark)) → 1 ≤ length ms → Each (λ (k : SignedBy Mark). k.statement ≡ record { place = place; digest = digest }) ms
+    → Each (λ (k : SignedBy Mark). FitsSigned marks (λ signer. FitsMark) k) ms → FitsMark (record { place = place; digest = digest })
+first-mark place digest [] some stated fit = absurd (omega (arith, some))
+first-mark place digest (k ∷ ms) some stated fit = subst (λ (x : Mark). FitsMark x) stated.0 fit.0.statement_fits
+
+planned-fits : (secret : List ℕ) (offers : List StateOffer) (table : List (SignedBy Mark)) (place : ℕ) (v : View) (p : Plan) → is_view v ≡ true → Each (FitsStated secret) (all_marks offers table)
+    → planned offers table place v ≡ Ok p → FitsPlan p
+planned-fits secret offers table place v p viewed all said =
+    let cert = rests_on_marks secret offers table place v p viewed (each-weaken (FitsStated secret) (λ k. is_verified marks secret k ≡ true) (λ k fit. fit.1) (all_marks offers table) all) said in
+    let each = plan_each (FitsStated secret) offers table place v p all said in
+    let fits : Each (λ (k : SignedBy Mark). FitsSigned marks (λ signer. FitsMark) k) p.marks =
+    each-weaken (FitsStated secret) (λ (k : SignedBy Mark). FitsSigned marks (λ signer. FitsMark) k) (λ k fit. fit.0) p.marks each.1 in
+    let enough = cert.1 in
+    let first = first-mark p.place p.digest p.marks (omega (arith, enough)) cert.0.stated fits in
+    let few = plan_few offers table place v p said in
+    let members = members-few v viewed in
+    let low = view-low v viewed in
+    let of_view = each.0 in
+    record {
+      place_fits = first.place_fits;
+      digest_fits = first.digest_fits;
+      view_fits = omega (arith, low, of_view);
+      marks_fit = record { few = omega (arith, few, members); all = each_all (λ (k : SignedBy Mark). FitsSigned marks (λ signer. FitsMark) k) p.marks fits };
+    }
+
+made-fits : (P : Plan → Type 0) (made : Result Plan NotYet) → ((p : Plan) → made ≡ Ok p → P p) → IfSome (made_of made) P
+made-fits P (Ok p) by = by p refl
+made-fits P (Err why) by = tt
+
+planning-fits : {S : Type 0} {m : Meaning S} (secret : List ℕ) (n : Node S) → FitNode m secret n → IfSome (planning n) FitsPlan
+unfolding planning
+planning-fits secret n is =
+    if_cond FitsPlan (is_none n.fetch) (made_of (planned n.offers n.marks n.replica.place (view_of n)))
+    (λ none. made-fits FitsPlan (planned n.offers n.marks n.replica.place (view_of n))
+    (λ p said. planned-fits secret n.offers n.marks n.replica.place (view_of n) p is.view
+    (all_each_mark (FitsStated secret) n.offers n.marks is.transfers.table_fits is.transfers.offers_fit) said))
+
+fit-follow_plan : {S : Type 0} {m : Meaning S} (secret : List ℕ) (n : Node S) (plan : Option Plan) → IfSome plan FitsPlan → FitNode m secret n → FitNode m secret (follow_plan n plan)
+unfolding follow_plan
+fit-follow_plan secret n None fit is = is
+fit-follow_plan {S = S} secret n (Some p) fit is =
+    let x : Node S = record n { fetch = Some (record { plan = p; parts = [] }) } in
+    fit-holding secret x (targets.Node p.seeder) (state_ask n p.place) (asked-good secret n p.place fit.place_fits.1 is)
+    (fit-known secret n n.offers (Some (record { plan = p; parts = [] })) n.behind is.transfers.offers_fit (record { plan_fits = fit }) is)
+
+pub fit-plans : {S : Type 0} {m : Meaning S} (secret : List ℕ) (n : Node S) → FitNode m secret n → FitNode m secret (plans n)
+unfolding plans
+fit-plans secret n is = fit-follow_plan secret n (planning n) (planning-fits secret n is) is
+
+-- ---- a replica is taken over
+
+no_bytes : IsBytes []
+no_bytes = record { below = λ i. subst (λ (x : ℕ). x < 256) (sym (get_or_past {X = ℕ} [] i 0 (omega arith))) (omega arith) }
+
+bytes-both : (xs ys : List ℕ) → IsBytes xs → IsBytes ys → IsBytes (xs ++ ys)
+bytes-both [] ys are others = others
+bytes-both (b ∷ bs) ys are others =
+    let rest = bytes-both bs ys (record { below = λ j. are.below (suc j) }) others in
+    record { below = λ i. at rest i }
+  where
+    at : IsBytes (bs ++ ys) → (i : ℕ) → get_or (b ∷ (bs ++ ys)) i 0 < 256
+    at rest zero = are.below 0
+    at rest (suc i) = rest.below i
+
+part_bytes : (o : Option StatePart) → IfSome o (λ (p : StatePart). IsBytes p.bytes) → IsBytes (bytes_in o)
+part_bytes None are = no_bytes
+part_bytes (Some p) are = are
+
+joined-bytes : (parts : List StatePart) (count : ℕ) → Each (λ (p : StatePart). IsBytes p.bytes) parts → IsBytes (joined parts count)
+joined-bytes parts zero each = no_bytes
+joined-bytes parts (suc count) each =
+    bytes-both (joined parts count) (bytes_in (part_at parts count)) (joined-bytes parts count each)
+    (part_bytes (part_at parts count) (if_find (λ (p : StatePart). IsBytes p.bytes) (is_numbered count) parts each))
+
+joined_of-bytes : (f : Fetch) → Each (λ (p : StatePart). IsBytes p.bytes) f.parts → IsBytes (joined_of f)
+unfolding joined_of
+joined_of-bytes f each = joined-bytes f.parts (pieces_of f.plan.size) each
+
+-- the lines of a replica that was read can be stated
+read_line : (place : ℕ) (line : TableLine) → place < 2 ^ 63 → IsSmallLine place line → FitsLine line.last
+read_line place line low fit = record {
+  view = fit.view_fits;
+  place = (let least = fit.some_place in omega (arith, least), (let past = fit.past_place in omega (arith, past, low)));
+  index = (let few = fit.index_fits in omega (arith, few));
+  client = (let known = fit.client_fits in omega (arith, known));
+  seq = fit.seq_fits;
+  reply = fit.reply_fits;
+}
+
+pub read-lines : {S : Type 0} (m : Meaning S) (r : Replica S) → IsSmall m r → Each FitsLine (kept_in r.table)
+read-lines m r small =
+    each_kept FitsLine r.table (each-weaken (IsSmallLine r.place) (λ (line : TableLine). FitsLine line.last) (λ line fit. read_line r.place line small.place_fits fit) r.table small.lines_fit)
+
+fit-spoil : {S : Type 0} {m : Meaning S} (secret : List ℕ) (n : Node S) (f : Fetch) → FitNode m secret n → FitNode m secret (spoil n f)
+unfolding spoil
+fit-spoil secret n f is =
+    fit-known secret n (filter (is_other_offer f.plan) n.offers) None n.behind
+    (each_filter (λ (o : StateOffer). Each (FitsStated secret) o.marks) (is_other_offer f.plan) n.offers is.transfers.offers_fit) tt is
+
+-- with another replica of the same views
+fit-replaced : {S : Type 0} {m : Meaning S} (secret : List ℕ) (n : Node S) (r : Replica S) (owned : List OwnSnapshot) → r.views ≡ n.replica.views → IsSmall m r → Each FitsSnapshot owned → ForBatch n.waiting (FitsWaiting (r.place + 1))
+    → FitNode m secret n → FitNode m secret (record n { replica = r; pool = settled r.table n.pool; fetch = None; taken = n.taken ++ owned })
+unfolding regency_of
+fit-replaced {S = S} {m = m} secret n r owned alike small fits waiting is =
+    record {
+      named = is.named;
+      shared = is.shared;
+      view = subst (λ (vs : List View). is_view (present vs) ≡ true) (sym alike) is.view;
+      views = small.views_fit;
+      regency = regency-view (view_of n) (present r.views) n.entries (ap present alike) is.regency;
+      lines = read-lines m r small;
+      pool = each_filter (FitsPool secret) (λ q. is_next r.table q.statement) n.pool is.pool;
+      arrivals = is.arrivals;
+      told = is.told;
+      begun = is.begun;
+      book = is.book;
+      waiting = waiting;
+      held = is.held;
+      service = small.service_fits;
+      transfers = record {
+        small = small;
+        owned = subst (λ (ss : List OwnSnapshot). Each FitsSnapshot ss) (append_assoc (option_to_list n.checkpoint) n.taken owned)
+            (each_append FitsSnapshot (own_snapshots n) owned is.transfers.owned fits);
+        shown_fit = is.transfers.shown_fit;
+        offers_fit = is.transfers.offers_fit;
+        table_fits = is.transfers.table_fits;
+        fetch_fits = tt;
+      };
+    }
+
+none-waits : (place : ℕ) (waiting : Option Batch) → waiting ≡ None → ForBatch waiting (FitsWaiting place)
+none-waits place None free = tt
+none-waits place (Some batch) free = absurd (cc)
+
+-- what a node takes over: a small replica, whose snapshot its bytes are
+pub record Settled {S : Type 0} (m : Meaning S) (f : Fetch) (r : Replica S) : Type 0 where
+  pub small : IsSmall m r
+  pub text : joined_of f ≡ snapshot_text m r
+
+-- a node of which what it may take over is so
+pub record Settles {S : Type 0} (m : Meaning S) (n : Node S) : Type 0 where
+  pub each : (f : Fetch) (r : Replica S) → IsReady n f → are_all_there f ≡ true → IsTakenFrom m f r → Settled m f r
+
+-- so it is where all parts are bytes
+pub settles-bytes : {S : Type 0} (m : Meaning S) → IsBrief m → (n : Node S) → ArePartsBytes n.fetch → Settles m n
+settles-bytes {S = S} m brief n are = record { each = λ f r due all taken. of f r (stands_bytes n.fetch f due.stands are) taken }
+  where
+    stands_bytes : (fetch : Option Fetch) (f : Fetch) → fetch ≡ Some f → ArePartsBytes fetch → Each (λ (p : StatePart). IsBytes p.bytes) f.parts
+    stands_bytes None f at are = absurd (cc)
+    stands_bytes (Some x) f at are = subst (λ (y : Fetch). Each (λ (p : StatePart). IsBytes p.bytes) y.parts) (some_equal x f at) are
+
+    of : (f : Fetch) (r : Replica S) → Each (λ (p : StatePart). IsBytes p.bytes) f.parts → IsTakenFrom m f r → Settled m f r
+    of f r each taken =
+        let bytes = joined_of-bytes f each in
+        record { small = small-restored m brief (joined_of f) r bytes taken.read; text = restored_text m brief (joined_of f) r bytes taken.read }
+
+fit-install_replica : {S : Type 0} {m : Meaning S} (secret : List ℕ) → IsBrief m → (n : Node S) (f : Fetch) (r : Replica S) → IsReady n f → Settled m f r → is_of_group n r ≡ true → FitsFetch f → FitNode m secret n
+    → FitNode m secret (install_replica n f r)
+unfolding install_replica
+fit-install_replica {S = S} {m = m} secret brief n f r due takes of fit is =
+    let entry : LogEntry = installed_by f.plan in
+    let small = takes.small in
+    let text = takes.text in
+    let short = short_small m brief r small in
+    let long : length (joined_of f) ≡ length (snapshot_text m r) = ap (λ (bs : List ℕ). length bs) text in
+    let x : Node S = recording n entry in
+    let recorded = fit-recording secret n entry (quiet-installed _) (record { place_fits = fit.plan_fits.place_fits; digest_fits = fit.plan_fits.digest_fits; view_fits = fit.plan_fits.view_fits; marks_fit = fit.plan_fits.marks_fit }) is in
+    let own : OwnSnapshot = record { place = f.plan.place; snapshot = joined_of f; needs = length x.entries } in
+    let installed = fit-replaced secret x r (own ∷ []) (views_equal n r of) small (record { place_fits = fit.plan_fits.place_fits; short = omega (arith, long, short) }, tt) (none-waits (r.place + 1) n.waiting due.free) recorded in
+    let y : Node S = record x { replica = r; pool = settled r.table n.pool; fetch = None; taken = n.taken ++ own ∷ [] } in
+    fit-holding secret y targets.View (state_ask y 0) (asked-good secret y 0 (omega arith) installed) installed
+
+fit-install_by : {S : Type 0} {m : Meaning S} (secret : List ℕ) → IsBrief m → (n : Node S) (f : Fetch) (made : Result (Replica S) Spoiled) → IsReady n f → are_all_there f ≡ true → Settles m n → finished m f ≡ made → FitsFetch f
+    → FitNode m secret n → FitNode m secret (install_by n f made)
+fit-install_by {S = S} {m = m} secret brief n f (Ok r) due all settles at fit is =
+    either_by (λ (x : Node S). FitNode m secret x) (is_of_group n r) (install_replica n f r) (spoil n f)
+    (λ of. fit-install_replica secret brief n f r due (settles.each f r due all (finished_from m f r at)) of fit is) (λ strange. fit-spoil secret n f is)
+fit-install_by secret brief n f (Err why) due all settles at fit is = fit-spoil secret n f is
+
+pub fetch_stands : (fetch : Option Fetch) (f : Fetch) → fetch ≡ Some f → IfSome fetch FitsFetch → FitsFetch f
+fetch_stands None f at fit = absurd (cc)
+fetch_stands (Some x) f at fit = subst (λ (y : Fetch). FitsFetch y) (some_equal x f at) fit
+
+fit-install_fetch : {S : Type 0} (secret : List ℕ) (m : Meaning S) → IsBrief m → (n : Node S) (due : Option Fetch) → installing n ≡ due → Settles m n → FitNode m secret n → FitNode m secret (install_fetch m n due)
+unfolding install_fetch
+fit-install_fetch secret m brief n None at settles is = is
+fit-install_fetch secret m brief n (Some f) at settles is =
+    let due = installing_is n f at in
+    let ready = and_true (are_all_there f && is_none n.waiting) (nat_lt n.replica.place f.plan.place) (installing_ready n f at) in
+    let all = (and_true (are_all_there f) (is_none n.waiting) ready.0).0 in
+    fit-install_by secret brief n f (finished m f) due all settles refl (fetch_stands n.fetch f due.stands is.transfers.fetch_fits) is
+
+-- what a node may take over is a small replica, and it takes it over
+pub fit-installs : {S : Type 0} (secret : List ℕ) (m : Meaning S) → IsBrief m → (n : Node S) → Settles m n → FitNode m secret n → FitNode m secret (installs m n)
+unfolding installs
+fit-installs secret m brief n settles is = fit-install_fetch secret m brief n (installing n) refl settles is
 
 -- ---- a step
 
@@ -1174,26 +1917,34 @@ fit-rules secret m = record {
   by_accepts = λ n is. fit-accepts secret n is;
   by_decides = λ n is. fit-decides secret n is;
   by_times = λ n is. fit-times secret n is;
-  by_answers = λ n message is. fit-answers_again secret n message is;
-}
-
-fit-in_steps : {S : Type 0} (secret : List ℕ) (m : Meaning S) → IsBrief m → KeptInSteps m (λ n. FitNode m secret n) Fits
-fit-in_steps secret m brief = record {
-  by_rules = fit-rules secret m;
-  by_noted = λ n message is. fit-noted secret n message is;
-  by_kept = λ n message fine fit is. fit-kept secret n message fine fit is;
-  by_delivers = λ n is. fit-delivers secret m brief n is;
-  by_firm = λ x count good. fit-as secret x count x.proposed x.stop_made x.sync_made x.impatient x.behind good;
+  by_answers = λ n asked is. fit-answers_again secret n asked is;
+  by_states = λ n a is. fit-answers_state secret n a is;
+  by_plans = λ n is. fit-plans secret n is;
 }
 
 -- what comes has a spelling
 abbrev pub FitsEvent : NodeEvent → Type 0
 FitsEvent event = ForEvent Fits event
 
--- each event keeps that what a node holds has a spelling
-pub fit-step : {S : Type 0} (secret : List ℕ) (m : Meaning S) → IsBrief m → (n : Node S) (event : NodeEvent) → FitsEvent event → FitNode m secret n → FitNode m secret (step_of m n event).node
-fit-step secret m brief n event fit is =
-    keeps_step m (λ x. FitNode m secret x) Fits n event (fit-in_steps secret m brief) fit is
+-- what takes an event in keeps that what a node holds has a spelling
+pub fit-takes_in : {S : Type 0} {m : Meaning S} (secret : List ℕ) (n : Node S) (event : NodeEvent) → FitsEvent event → FitNode m secret n → FitNode m secret (takes_in n event).node
+fit-takes_in {S = S} {m = m} secret n event fit is =
+    takes_in_as (λ (x : Node S). FitNode m secret x) Fits n event (λ message. fit-noted secret n message is)
+    (λ message none came. fit-kept secret (noted n message) message (why-noted n message ∙ none) came (fit-noted secret n message is))
+    (λ count. fit-as secret n count n.proposed n.stop_made n.sync_made n.impatient n.behind is) fit is
+
+-- so does each event, if what the node may take over is small
+pub fit-step : {S : Type 0} (secret : List ℕ) (m : Meaning S) → IsBrief m → (n : Node S) (event : NodeEvent) → FitsEvent event → Settles m (takes_in n event).node → FitNode m secret n
+    → FitNode m secret (step_of m n event).node
+fit-step {S = S} secret m brief n event fit settles is =
+    let t : Node S = (takes_in n event).node in
+    let i : Node S = installs m t in
+    let taken : FitNode m secret t = fit-takes_in secret n event fit is in
+    let installed : FitNode m secret i = fit-installs secret m brief t settles taken in
+    let delivered : FitNode m secret (delivers m i) = fit-delivers secret m brief i installed in
+    keeps_from m (λ (x : Node S). FitNode m secret x) n event (fit-rules secret m) taken installed
+    (by_mark m (λ (x : Node S). FitNode m secret x) (is_some i.waiting) (delivers m i) delivered
+    (λ due. fit-mark secret m brief (delivers m i) (delivered-mark secret m i (and_true (is_some i.waiting) _ due).0 installed) delivered))
 
 -- what is firm has left
 pub fit-released : {S : Type 0} {m : Meaning S} (secret : List ℕ) (n : Node S) → FitNode m secret n → FitNode m secret (released n)
@@ -1214,6 +1965,7 @@ fit-released secret n is =
       waiting = is.waiting;
       held = each_staying (λ (h : Held). IsGood secret h.message) n.firm n.held is.held;
       service = is.service;
+      transfers = is.transfers;
     }
 
 -- a node begins so
@@ -1235,29 +1987,52 @@ fit-opened secret m id view period named is =
       waiting = tt;
       held = tt;
       service = comes_first;
+      transfers = record {
+        small = record { place_fits = omega arith; views_fit = (is, tt); few_views = omega arith; lines_fit = tt; lines_in_turn = tt; service_fits = comes_first };
+        owned = tt;
+        shown_fit = tt;
+        offers_fit = tt;
+        table_fits = tt;
+        fetch_fits = tt;
+      };
     }
 
 -- ---- whatever comes
 
+-- the last field of a part is of bytes where all are
+part-bytes : (m : Message) → IsBytes (spelling m) → IsBytesIn m
+unfolding spelling
+part-bytes (changes.StatePart p) are =
+    let part = u32 (length p.bytes) ++ p.bytes in
+    bytes-after (u32 (length p.bytes)) p.bytes
+    (bytes-after (u32 p.total) part (bytes-after (u32 p.index) (u32 p.total ++ part) (bytes-after (u64 p.place) (u32 p.index ++ (u32 p.total ++ part)) (bytes-after (u8 (kind (changes.StatePart p))) (part_text p) are))))
+part-bytes _ are = tt
+
 -- bytes that are a message are its spelling
-bytes-fit : (bytes : List ℕ) (read : Result Message ℕ) → IsBytes bytes → decoded bytes ≡ read → ForRead Fits read
-bytes-fit bytes (Ok m) are is = (decoded_is bytes m are is).0
-bytes-fit bytes (Err at) are is = tt
+bytes-fit : (bytes : List ℕ) (read : Result Message ℕ) → IsBytes bytes → decoded bytes ≡ read → ForRead Fits read × ForRead IsBytesIn read
+bytes-fit bytes (Ok m) are is = let read = decoded_is bytes m are is in (read.0, part-bytes m (subst (λ (bs : List ℕ). IsBytes bs) read.1 are))
+bytes-fit bytes (Err at) are is = (tt, tt)
 
-pub event-fits : (event : NodeEvent) → IsByteEvent event → FitsEvent event
+pub event-fits : (event : NodeEvent) → IsByteEvent event → FitsEvent event × ForEvent IsBytesIn event
 event-fits (Arrive bytes) are = bytes-fit bytes (decoded bytes) are refl
-event-fits Tick are = tt
-event-fits Deliver are = tt
-event-fits (Firm count) are = tt
+event-fits Tick are = (tt, tt)
+event-fits Deliver are = (tt, tt)
+event-fits (Firm count) are = (tt, tt)
 
-pub fit_after : {S : Type 0} (secret : List ℕ) (m : Meaning S) → IsBrief m → (n : Node S) (events : List NodeEvent) → Each IsByteEvent events → FitNode m secret n → FitNode m secret (node_after m n events)
-fit_after secret m brief n [] each is = is
-fit_after secret m brief n (e ∷ es) each is = fit_after secret m brief (step_of m n e).node es each.1 (fit-step secret m brief n e (event-fits e each.0) is)
+-- what a node may take over is small, where all that comes is bytes
+pub event-settles : {S : Type 0} (m : Meaning S) → IsBrief m → (n : Node S) (event : NodeEvent) → IsByteEvent event → ArePartsBytes n.fetch → Settles m (takes_in n event).node
+event-settles m brief n event are parts = settles-bytes m brief (takes_in n event).node (parts-takes_in n event (event-fits event are).1 parts)
+
+pub fit_after : {S : Type 0} (secret : List ℕ) (m : Meaning S) → IsBrief m → (n : Node S) (events : List NodeEvent) → Each IsByteEvent events → ArePartsBytes n.fetch → FitNode m secret n → FitNode m secret (node_after m n events)
+fit_after secret m brief n [] each parts is = is
+fit_after secret m brief n (e ∷ es) each parts is =
+    fit_after secret m brief (step_of m n e).node es each.1 (parts-step m n e (event-fits e each.0).1 parts)
+    (fit-step secret m brief n e (event-fits e each.0).0 (event-settles m brief n e each.0 parts) is)
 
 pub holds_genuine : {S : Type 0} (m : Meaning S) → IsBrief m → (secret : List ℕ) (id : ℕ) (view : View) (period : ℕ) (events : List NodeEvent) → IsSigner 1 id → is_view view ≡ true → Each IsByteEvent events
     → HoldsGenuine (node_after m (opened (outset m secret id view period)) events)
 holds_genuine {S = S} m brief secret id view period events named viewed each =
     let n : Node S = node_after m (opened (outset m secret id view period)) events in
-    let fit : FitNode m secret n = fit_after secret m brief (opened (outset m secret id view period)) events each (fit-opened secret m id view period named viewed) in
+    let fit : FitNode m secret n = fit_after secret m brief (opened (outset m secret id view period)) events each tt (fit-opened secret m id view period named viewed) in
     each-weaken (λ (h : Held). IsGood secret h.message) (λ (h : Held). IsGenuine n.secret h.message)
     (λ h good. subst (λ (s : List ℕ). IsGenuine s h.message) (sym fit.shared) (good-genuine secret h.message good)) n.held fit.held

@@ -1,26 +1,25 @@
 -- A node keeps its name, and decides one batch at a time.
-use Rattle.std.proofs.Common.{◌≡◌, ℕ, ◌+◌, ◌≤◌, ◌++◌, Bool, true, false, List, [], ◌∷◌, length, refl, ap, ◌∙◌, arith, Option, Some, None, is_some, nat_lt, length-append, append-nil}
+use Rattle.std.proofs.Common.{◌≡◌, ℕ, ◌+◌, ◌≤◌, ◌++◌, Bool, true, false, List, [], ◌∷◌, length, refl, sym, subst, ap, ◌∙◌, arith, Option, Some, None, is_some, nat_lt, length-append, append-nil}
 use Rattle.std.specs.List.{cons_option, flat_map}
 use Rattle.agreement_laws.proofs.Lists.{either}
 use Rattle.std.proofs.lemmas.Grind.{flat_map-append}
 use Rattle.smart_base.specs.Lists.{Each}
 use Rattle.smart_statements.specs.Forms.{SignedBy}
 use Rattle.smart_statements.specs.Batches.{Batch}
-use Rattle.smart_messages.specs.Messages.{decoded}
 use Rattle.smart_messages.specs.declared.regency.Sync.{Sync}
-use Rattle.smart_messages.specs.declared.message.Message.{Message}
 use Rattle.smart_statements.specs.declared.entry.NodeEvent.{NodeEvent}
-use Rattle.smart_statements.specs.declared.entry.NodeEvent.TheVariants.{Arrive, Tick, Deliver, Firm}
 use Rattle.smart_service.specs.Services.{Meaning}
 use Rattle.smart_service.specs.declared.table.Execution.{Execution}
 use Rattle.vote_book.specs.declared.entry.Decision.{Decision}
 use Rattle.vote_book.specs.declared.entry.LogEntry.TheVariants.{Decided}
 use Rattle.replica_rules.specs.Replicas.{delivered, executed_lines}
 use Rattle.replica_rules.specs.Pools.{settled}
-use Rattle.node_rules.specs.Rules.{reply_of, replying, lines_to_answer, deliver_batch, delivers, delivery, proposing, proposes, writing, writes, accepting, accepts, deciding, decide_batch, decides, fired_if, answering, answers_again, asked_in}
+use Rattle.node_rules.specs.Rules.{reply_of, replying, lines_to_answer, deliver_batch, delivers, delivery, proposing, proposes, writing, writes, accepting, accepts, deciding, decide_batch, decides, fired_if, answering, answers_again}
 use Rattle.node_rules.specs.declared.node.Delivery.{Delivery}
+use Rattle.snapshot_form.specs.Snapshots.{snapshot_text}
+use Rattle.node_rules.specs.Marks.{mark_place, marking}
 use Rattle.node_rules.specs.Nodes.{Node, next_place, holding}
-use Rattle.node_rules.specs.Arrivals.{why_dropped, kept, noted}
+use Rattle.node_rules.specs.Arrivals.{noted}
 use Rattle.node_rules.specs.Changes.{fired_when, fired_adopt, adoption, adopts, joining, joins, next_promise, promising, promises, leading, leads, timing, times}
 use Rattle.node_rules.specs.Steps.{Taken, row, deliver_row, rules, pass, takes_in, step_of}
 use Rattle.node_rules.specs.Kept.{node_after}
@@ -32,13 +31,16 @@ use Rattle.node_rules.specs.declared.node.Fired.TheVariants as fires
 use Rattle.node_rules.specs.Deliveries.{delivery_in}
 use Rattle.node_rules.specs.Reopening.{decided_of}
 use Rattle.node_laws.proofs.Restored.{decided_append}
-use Rattle.replica_laws.proofs.InOrder.{decided-adopts, decided-promises, decided-writes, decided-accepts}
-use Rattle.replica_laws.proofs.Leaves.{leaves-adopts, leaves-joins, leaves-promises, leaves-leads, leaves-proposes, leaves-writes, leaves-accepts, leaves-times, leaves-answers_again, leaves-noted, leaves-kept}
-use Rattle.node_rules.proofs.Rulewise.{RowKeeps, KeptByRules, KeptInSteps, free-event, by_delivery, by_time, by_answer, later_rows, for_later, keeps_behind, by_step, takes_in_as, keeps_from, keeps_step}
+use Rattle.replica_laws.proofs.InOrder.{decided-adopts, decided-promises, decided-writes, decided-accepts, decided-mark}
+use Rattle.replica_laws.proofs.Leaves.{leaves-adopts, leaves-joins, leaves-promises, leaves-leads, leaves-proposes, leaves-writes, leaves-accepts, leaves-times, leaves-answers_again, leaves-answers_state, leaves-plans, leaves-noted, leaves-kept, leaves-mark}
+use Rattle.replica_laws.proofs.Installs.{takes-installs, decided-installs, installs-none, quiet-installs}
+use Rattle.node_rules.specs.Transfers.{installs, answers_state, planning, plans, answers_call, answered_call}
+use Rattle.node_rules.specs.declared.node.Called.{Called}
+use Rattle.node_rules.specs.declared.node.Called.TheVariants as calls
+use Rattle.node_rules.proofs.Rulewise.{told_installed, RowKeeps, KeptByRules, KeptInSteps, free-event, by_mark, by_delivery, by_time, by_answer, later_rows, for_later, keeps_behind, by_step, takes_in_as, keeps_from, keeps_step}
 use Rattle.smart_base.proofs.ViewFacts.{each-weaken}
 use Rattle.kept_arrivals.proofs.Rules.{decides_free}
-use Rattle.node_rules.proofs.Entries.{answers_again_same, delivers_same, joins_same, leads_same, proposes_same, takes_in_same, times_same}
-use Rattle.node_rules.specs.declared.node.Asked.{Asked}
+use Rattle.node_rules.proofs.Entries.{answers_again_same, answers_state_same, plans_same, delivers_same, joins_same, leads_same, proposes_same, takes_in_same, times_same}
 
 -- the same member's node
 abbrev pub Follows : {S : Type 0} → Node S → Node S → Type 0
@@ -89,6 +91,8 @@ follows-rules a = record {
   by_decides = λ n is. follows-decides n ∙ is;
   by_times = λ n is. (leaves-times n).named ∙ is;
   by_answers = λ n asked is. (leaves-answers_again n asked).named ∙ is;
+  by_states = λ n a is. (leaves-answers_state n a).named ∙ is;
+  by_plans = λ n is. (leaves-plans n).named ∙ is;
 }
 
 follows-in_steps : {S : Type 0} (m : Meaning S) (a : Node S) → KeptInSteps m (λ n. Follows a n) (λ message. Unit {0})
@@ -96,7 +100,9 @@ follows-in_steps m a = record {
   by_rules = follows-rules a;
   by_noted = λ n message is. (leaves-noted n message).named ∙ is;
   by_kept = λ n message fine may is. (leaves-kept n message).named ∙ is;
+  by_installs = λ n is. (takes-installs m n).named ∙ is;
   by_delivers = λ n is. follows-delivers m n ∙ is;
+  by_marks = λ n waits is delivered. (leaves-mark m (delivers m n)).named ∙ delivered;
   by_firm = λ x count is. is;
 }
 
@@ -152,14 +158,21 @@ next-rules past a = record {
   by_decides = λ n is. next-decides past a n is;
   by_times = λ n is. next-as past a n (times n) (ap (decided_of past) (times_same n)) (leaves-times n).waits is;
   by_answers = λ n asked is. next-as past a n (answers_again n asked) (ap (decided_of past) (answers_again_same n asked)) (leaves-answers_again n asked).waits is;
+  by_states = λ n ask is. next-as past a n (answers_state n ask) (ap (decided_of past) (answers_state_same n ask)) (leaves-answers_state n ask).waits is;
+  by_plans = λ n is. next-as past a n (plans n) (ap (decided_of past) (plans_same n)) (leaves-plans n).waits is;
 }
 
 -- so does a step
 pub next-step : {S : Type 0} (m : Meaning S) (past : ℕ) (n : Node S) (event : NodeEvent) → DecidesNext past n (step_of m n event).node
 next-step {S = S} m past n event =
     let t : Node S = (takes_in n event).node in
-    keeps_from m (λ (x : Node S). DecidesNext past n x) n event (next-rules past n) (next-same past n t (ap (decided_of past) (takes_in_same n event)))
-    (next-same past n (delivers m t) (ap (decided_of past) (delivers_same m t ∙ takes_in_same n event)))
+    let i : Node S = installs m t in
+    let taken : decided_of past t.entries ≡ decided_of past n.entries = ap (decided_of past) (takes_in_same n event) in
+    let installed : decided_of past i.entries ≡ decided_of past n.entries = decided-installs past m t ∙ taken in
+    let delivered_is : decided_of past (delivers m i).entries ≡ decided_of past n.entries = ap (decided_of past) (delivers_same m i) ∙ installed in
+    keeps_from m (λ (x : Node S). DecidesNext past n x) n event (next-rules past n) (next-same past n t taken) (next-same past n i installed)
+    (by_mark m (λ (x : Node S). DecidesNext past n x) (is_some i.waiting) (delivers m i) (next-same past n (delivers m i) delivered_is)
+    (λ due. next-same past n (mark_place m (delivers m i)) (decided-mark past m (delivers m i) ∙ delivered_is)))
 
 -- what a step delivers is the batch that waited, at the next place
 
@@ -186,6 +199,12 @@ quiet-adopt : (sync : Option (SignedBy Sync)) → flat_map delivery_in (fired_ad
 quiet-adopt None = refl
 quiet-adopt (Some sync) = refl
 
+quiet-called : {S : Type 0} (n : Node S) (called : Called) → flat_map delivery_in (answered_call n called) ≡ []
+quiet-called n calls.Nobody = refl
+quiet-called n (calls.Request asked) = quiet-if fires.Answered (answering n asked) refl
+quiet-called n (calls.State a) = refl
+quiet-called n calls.Offered = quiet-if fires.Answered (planning n) refl
+
 -- what has been delivered
 abbrev Told : {S : Type 0} → List Delivery → Node S → List Fired → Type 0
 Told ds n fired = flat_map delivery_in fired ≡ ds
@@ -211,14 +230,14 @@ quiet-later S ds =
           by_time (Told ds) n cause fired is (quiet-row ds times (λ x. fired_when fires.Timed (timing x)) (λ x. quiet-when fires.Timed (timing x) refl) n Ticked fired is);
       answer = λ n cause fired is.
           by_answer (Told ds) n cause fired is
-          (λ asked. quiet-row ds (λ x. answers_again x asked) (λ x. fired_if fires.Answered (answering x asked)) (λ x. quiet-if fires.Answered (answering x asked) refl) n (Came asked) fired is);
+          (λ called. quiet-row ds (λ x. answers_call x called) (λ x. answered_call x called) (λ x. quiet-called x called) n (Came called) fired is);
     })
 
--- so a pass delivers what its first row delivers
+-- so a pass delivers what its second row delivers
 pub told-passed : {S : Type 0} (m : Meaning S) (n : Node S) (cause : Cause) (fired : List Fired)
-    → flat_map delivery_in (pass (rules m) n cause fired).1 ≡ flat_map delivery_in (deliver_row m n cause fired).1
+    → flat_map delivery_in (pass (rules m) n cause fired).1 ≡ flat_map delivery_in (deliver_row m (installs m n) cause (told_installed m n fired)).1
 told-passed {S = S} m n cause fired =
-    let ds : List Delivery = flat_map delivery_in (deliver_row m n cause fired).1 in
+    let ds : List Delivery = flat_map delivery_in (deliver_row m (installs m n) cause (told_installed m n fired)).1 in
     keeps_behind m (Told ds) n cause fired (quiet-later S ds) refl
 
 -- what takes an event in leaves the replica, and the batch that waits
@@ -245,11 +264,46 @@ unfolding delivery
 due-delivery m n None at = tt
 due-delivery m n (Some batch) at = (record { batch = at; place = refl; executed = refl }, tt)
 
+-- and a mark delivers nothing
+pub told-marked : (snapshot : List ℕ) (told : List Fired) (t : Bool) → flat_map delivery_in (told ++ fired_when (fires.Marked snapshot) t) ≡ flat_map delivery_in told
+told-marked snapshot told t = quiet-behind told (fired_when (fires.Marked snapshot) t) (quiet-when (fires.Marked snapshot) t refl)
+
+due-marked : {S : Type 0} (m : Meaning S) (n : Node S) (snapshot : List ℕ) (told : List Fired) (t : Bool) → Each (WasDue m n) (flat_map delivery_in told)
+    → Each (WasDue m n) (flat_map delivery_in (told ++ fired_when (fires.Marked snapshot) t))
+due-marked m n snapshot told t each =
+    subst (λ (ds : List Delivery). Each (WasDue m n) ds) (sym (told-marked snapshot told t)) each
+
+-- what is due behind an installation is due before it, as nothing is installed where a batch waits
+due-installed : {S : Type 0} (m : Meaning S) (n : Node S) (d : Delivery) → WasDue m (installs m n) d → WasDue m n d
+due-installed {S = S} m n d due =
+    let waits : is_some n.waiting ≡ true = ap is_some (sym (takes-installs m n).waits ∙ due.batch) in
+    subst (λ (x : Node S). WasDue m x d) (installs-none m n waits) due
+
+-- and what was told of an installation is no delivery
+installed-quiet : {S : Type 0} (m : Meaning S) (n : Node S) (told : List Fired) → flat_map delivery_in (told_installed m n [] ++ told) ≡ flat_map delivery_in told
+installed-quiet m n told =
+    flat_map-append delivery_in (told_installed m n []) told ∙ ap (λ (ds : List Delivery). ds ++ flat_map delivery_in told) (quiet-installs m n)
+
+-- a pass delivers what waits behind its installation
+pub due-passed : {S : Type 0} (m : Meaning S) (n : Node S) (cause : Cause) → Each (WasDue m (installs m n)) (flat_map delivery_in (pass (rules m) n cause []).1)
+due-passed {S = S} m n cause =
+    let i : Node S = installs m n in
+    rw (told-passed m n cause [])
+    (by_delivery m (λ (x : Node S) (told : List Fired). Each (WasDue m i) (flat_map delivery_in told)) i cause (told_installed m n [])
+    (subst (λ (ds : List Delivery). Each (WasDue m i) ds) (sym (quiet-installs m n)) tt)
+    (due-marked m i (snapshot_text m (delivers m i).replica) (told_installed m n [] ++ delivery m i i.waiting) (marking (is_some i.waiting) (delivers m i))
+    (subst (λ (ds : List Delivery). Each (WasDue m i) ds) (sym (installed-quiet m n (delivery m i i.waiting))) (due-delivery m i i.waiting refl))))
+
 -- a step delivers what waited at most
 pub due-step : {S : Type 0} (m : Meaning S) (n : Node S) (event : NodeEvent) → Each (WasDue m n) (flat_map delivery_in (step_of m n event).fired)
 due-step {S = S} m n event =
     let t : Taken S = takes_in n event in
+    let i : Node S = installs m t.node in
+    let all : Each (WasDue m n) (flat_map delivery_in (delivery m i i.waiting)) =
+    each-weaken (WasDue m i) (WasDue m n) (λ d due. due-as m n t.node d (waits-takes_in n event) (due-installed m t.node d due)) _ (due-delivery m i i.waiting refl) in
     by_step m n event (λ (x : Node S) (told : List Fired). Each (WasDue m n) (flat_map delivery_in told)) tt
     (rw (told-passed m t.node t.cause [])
-    (by_delivery m (λ (x : Node S) (told : List Fired). Each (WasDue m n) (flat_map delivery_in told)) t.node t.cause [] tt
-    (each-weaken (WasDue m t.node) (WasDue m n) (λ d due. due-as m n t.node d (waits-takes_in n event) due) _ (due-delivery m t.node t.node.waiting refl))))
+    (by_delivery m (λ (x : Node S) (told : List Fired). Each (WasDue m n) (flat_map delivery_in told)) i t.cause (told_installed m t.node [])
+    (subst (λ (ds : List Delivery). Each (WasDue m n) ds) (sym (quiet-installs m t.node)) tt)
+    (due-marked m n (snapshot_text m (delivers m i).replica) (told_installed m t.node [] ++ delivery m i i.waiting) (marking (is_some i.waiting) (delivers m i))
+    (subst (λ (ds : List Delivery). Each (WasDue m n) ds) (sym (installed-quiet m t.node (delivery m i i.waiting))) all))))

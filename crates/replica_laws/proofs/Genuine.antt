@@ -3,7 +3,7 @@ use Rattle.std.proofs.Common.{◌≡◌, ℕ, ◌+◌, ◌*◌, ◌^◌, ◌<◌
 use Rattle.std.specs.Int.{w16}
 use Rattle.std.specs.List.{list_all, flat_map, AllByRecursion}
 use Rattle.smart_base.specs.Lists.{Each}
-use Rattle.smart_base.specs.Spelling.{behind}
+use Rattle.smart_base.specs.Spelling.{behind, IsCount}
 use Rattle.smart_keys.proofs.Digests.{digest-length}
 use Rattle.smart_keys.proofs.Tags.{tag_of-length, is_tag-tag_of}
 use Rattle.smart_statements.specs.Forms.{Form, SignedBy, party_of}
@@ -15,7 +15,8 @@ use Rattle.smart_statements.specs.Spelling.{FitsProposal, FitsBallot, FitsAnswer
 use Rattle.smart_statements.specs.Statements.{proposal_small, ballot_small, answer_small}
 use Rattle.smart_statements.specs.SignedLists.{listed, FitsList, optional, FitsOptional}
 use Rattle.smart_statements.specs.Reports as spells_report
-use Rattle.smart_statements.specs.Reports.{reports, votes_of, FitsVote, FitsReport, FitsEvidence, FitsLockCertificate}
+use Rattle.smart_statements.specs.Reports.{reports, marks, votes_of, FitsVote, FitsMark, FitsReport, FitsEvidence, FitsLockCertificate}
+use Rattle.smart_statements.specs.ReportLaws.{mark_small}
 use Rattle.smart_messages.specs.Regencies as spells_change
 use Rattle.smart_messages.specs.Regencies.{stops, syncs, FitsStop, FitsSync, stop_small}
 use Rattle.smart_messages.proofs.Messages.{spelling_is}
@@ -28,6 +29,7 @@ use Rattle.smart_statements.specs.declared.statement.Answer.{Answer}
 use Rattle.smart_statements.specs.declared.report.Evidence.{Evidence}
 use Rattle.smart_statements.specs.declared.report.Evidence.TheVariants as evidence
 use Rattle.smart_statements.specs.declared.report.LockCertificate.{LockCertificate}
+use Rattle.smart_statements.specs.declared.report.Mark.{Mark}
 use Rattle.smart_statements.specs.declared.report.Report.{Report}
 use Rattle.smart_messages.specs.declared.regency.Stop.{Stop}
 use Rattle.smart_messages.specs.declared.regency.Sync.{Sync}
@@ -38,6 +40,11 @@ use Rattle.replica_rules.specs.Seals.{signed, is_verified, digest_of}
 use Rattle.replica_laws.specs.Sending.{all_tagged, is_tagged, IsTerse, AreTerse, IsGenuine}
 use Rattle.smart_base.proofs.SameLists.{and_true}
 use Rattle.std.proofs.lemmas.Bool.{and_from}
+use Rattle.transfer_form.specs.Transfers.{IsMember}
+use Rattle.transfer_form.specs.declared.transfer.ProvenBatch.{ProvenBatch}
+use Rattle.transfer_form.specs.declared.transfer.StateAsk.{StateAsk}
+use Rattle.transfer_form.specs.declared.transfer.StateOffer.{StateOffer}
+use Rattle.transfer_form.specs.declared.transfer.StatePart.{StatePart}
 
 -- its parts have spellings, and it has one itself where the reports in it bear no idle evidence. Each statement in it bears its signer's tag
 pub record IsGood (secret : List ℕ) (message : Message) : Type 0 where
@@ -106,6 +113,18 @@ reply-good secret id a named fit =
       fits = signed-fits answers (λ signer. FitsAnswer) secret id a named fit (answer_small a fit.reply_fits);
       short = λ terse. omega (arith, long, text, fit.reply_fits);
       tagged = signed-verified answers secret id a;
+    }
+
+-- a member's mark
+pub mark-good : (secret : List ℕ) (id : ℕ) (k : Mark) → IsSigner 1 id → FitsMark k → IsGood secret (changes.Mark (signed marks secret id k))
+unfolding spelling
+mark-good secret id k named fit =
+    let long = tag-length marks secret id k in
+    let text : length (spells_report.mark k) ≡ 9 + length k.digest = omega arith in
+    record {
+      fits = signed-fits marks (λ signer. FitsMark) secret id k named fit (mark_small k fit.digest_fits);
+      short = λ terse. omega (arith, long, text, fit.digest_fits);
+      tagged = signed-verified marks secret id k;
     }
 
 -- each request of a batch bears its client's tag
@@ -202,16 +221,40 @@ votes-length kind votes fit =
     let few = fit.few in
     omega (arith, text, few)
 
--- evidence of a place that was decided, and none before the first
+-- marks of at most so many members
+pub record FitMarks (most : ℕ) (ms : List (SignedBy Mark)) : Type 0 where
+  pub few : length ms ≤ most
+  pub all : AllByRecursion (FitsSigned marks (λ signer. FitsMark)) ms
+
+mark-length : (k : SignedBy Mark) → FitsSigned marks (λ signer. FitsMark) k → length (spells.signed marks k) ≤ 4146
+mark-length k fit =
+    let long = signed-length marks k in
+    let text : length (spells_report.mark k.statement) ≡ 9 + length k.statement.digest = omega arith in
+    omega (arith, long, text, fit.statement_fits.digest_fits, fit.tag_fits)
+
+marks-text : (ms : List (SignedBy Mark)) → AllByRecursion (FitsSigned marks (λ signer. FitsMark)) ms → length (flat_map (spells.signed marks) ms) ≤ 4146 * length ms
+marks-text [] all = omega arith
+marks-text (k ∷ ms) all =
+    let one = mark-length k all.0 in
+    let rest = marks-text ms all.1 in
+    let long = length-append (spells.signed marks k) (flat_map (spells.signed marks) ms) in
+    omega (arith, one, rest, long)
+
+marks-length : (ms : List (SignedBy Mark)) → AllByRecursion (FitsSigned marks (λ signer. FitsMark)) ms → length (listed marks ms) ≤ 2 + 4146 * length ms
+marks-length ms all = let text = marks-text ms all in omega (arith, text)
+
+-- evidence of a place that was decided or installed, and none before the first
 abbrev pub FitEvidence : ℕ → Evidence → Type 0
 FitEvidence last evidence.Nothing = last ≡ 0
 FitEvidence last (evidence.Decided p) = ((p.view < 2 ^ 32) × (p.regency < 2 ^ 32)) × ((length p.digest ≡ 32) × FitVotes Accept p.accepts)
-FitEvidence last (evidence.Marked m) = ⊥
+FitEvidence last (evidence.Marked m) = (m.view < 2 ^ 32) × ((length m.digest ≡ 32) × FitMarks 31 m.marks)
 
 evidence-fits : (last : ℕ) (e : Evidence) → FitEvidence last e → FitsEvidence last e
 evidence-fits last evidence.Nothing fit = fit
 evidence-fits last (evidence.Decided p) fit = record { view_fits = fit.0.0; regency_fits = fit.0.1; digest_fits = fit.1.0; accepts_fit = votes-list Accept p.accepts fit.1.1 }
-evidence-fits last (evidence.Marked m) fit = absurd fit
+evidence-fits last (evidence.Marked m) fit =
+    let few = fit.1.1.few in
+    record { view_fits = fit.0; digest_fits = fit.1.0; marks_fit = (omega (arith, few), fit.1.1.all) }
 
 evidence-length : (last : ℕ) (e : Evidence) → FitEvidence last e → length (spells_report.evidence e) ≤ 128817
 evidence-length last evidence.Nothing fit = omega arith
@@ -220,7 +263,12 @@ evidence-length last (evidence.Decided p) fit =
     let digest = fit.1.0 in
     let long = length-append p.digest (listed (votes_of Accept) p.accepts) in
     omega (arith, list, digest, long)
-evidence-length last (evidence.Marked m) fit = absurd fit
+evidence-length last (evidence.Marked m) fit =
+    let list = marks-length m.marks fit.1.1.all in
+    let few = fit.1.1.few in
+    let digest = fit.1.0 in
+    let long = length-append m.digest (listed marks m.marks) in
+    omega (arith, list, few, digest, long)
 
 -- a lock
 abbrev pub FitLock : Option LockCertificate → Type 0
@@ -342,3 +390,46 @@ sync-good secret id s named view regency few each =
       short = λ terse. sync-short secret id s few (terse-text secret s.collect each terse);
       tagged = and_from (is_verified syncs secret (signed syncs secret id s)) (list_all (λ r. is_verified reports secret r) s.collect) (signed-verified syncs secret id s) (collect-tagged secret s.collect each);
     }
+
+-- ---- what members exchange to take over a replica
+
+-- a decided batch that is shown to another
+pub decision-good : (secret : List ℕ) (d : ProvenBatch) → IsCount d.place → FitsBatch d.batch → FitVotes Accept d.accepts → Each (λ b. is_verified ballots secret b ≡ true) d.accepts
+    → AreVerified secret d.batch → IsGood secret (changes.Decision d)
+unfolding spelling
+decision-good secret d place batch accepts voted tagged =
+    let list = votes-length Accept d.accepts accepts in
+    let long = length-append (batch_text d.batch) (listed (votes_of Accept) d.accepts) in
+    record {
+      fits = record { place_fits = place; batch_fits = batch; accepts_fit = votes-list Accept d.accepts accepts };
+      short = λ terse. omega (arith, list, long, batch.bytes_fit);
+      tagged = and_from (list_all (λ b. is_verified ballots secret b) d.accepts) (list_all (λ q. is_verified requests secret q) d.batch) (each_verified d.accepts voted) tagged;
+    }
+  where
+    each_verified : (bs : List (SignedBy Ballot)) → Each (λ b. is_verified ballots secret b ≡ true) bs → list_all (λ b. is_verified ballots secret b) bs ≡ true
+    each_verified [] each = refl
+    each_verified (b ∷ bs) each = and_from (is_verified ballots secret b) (list_all (λ x. is_verified ballots secret x) bs) each.0 (each_verified bs each.1)
+
+-- a member's ask for state
+pub ask_state-good : (secret : List ℕ) (a : StateAsk) → IsMember a.member → a.place < 2 ^ 63 → a.fetch < 2 ^ 63 → IsGood secret (changes.StateAsk a)
+unfolding spelling
+ask_state-good secret a named place fetch = record { fits = record { member_fits = named; place_fits = place; fetch_fits = fetch }; short = λ terse. omega arith; tagged = refl }
+
+-- a member's offer
+pub offer-good : (secret : List ℕ) (o : StateOffer) → IsMember o.member → o.place < 2 ^ 63 → o.size < 2 ^ 32 → FitMarks 64 o.marks → list_all (λ m. is_verified marks secret m) o.marks ≡ true
+    → IsGood secret (changes.StateOffer o)
+unfolding spelling
+offer-good secret o named place size few tagged =
+    let list = marks-length o.marks few.all in
+    let most = few.few in
+    record {
+      fits = record { member_fits = named; place_fits = place; size_fits = size; marks_fit = (few.few, few.all) };
+      short = λ terse. omega (arith, list, most);
+      tagged = tagged;
+    }
+
+-- a part of a snapshot
+pub part-good : (secret : List ℕ) (p : StatePart) → IsCount p.place → p.index < 2 ^ 32 → p.total < 2 ^ 32 → length p.bytes ≤ 65536 → IsGood secret (changes.StatePart p)
+unfolding spelling
+part-good secret p place index total short =
+    record { fits = record { place_fits = place; index_fits = index; total_fits = total; bytes_fit = short }; short = λ terse. omega (arith, short); tagged = refl }

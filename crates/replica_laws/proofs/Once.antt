@@ -1,12 +1,11 @@
 -- A node accepts once for each slot.
-use Rattle.std.proofs.Common.{◌≡◌, ℕ, ◌+◌, ◌≤◌, ◌++◌, Bool, true, false, not, List, [], ◌∷◌, refl, ap, arith, cond, nat_lt, Option, Some, None, is_some, ◌∙◌, subst, sym, append-nil}
+use Rattle.std.proofs.Common.{◌≡◌, ℕ, ◌+◌, ◌≤◌, ◌++◌, Bool, true, false, not, List, [], ◌∷◌, refl, ap, arith, cond, nat_lt, Option, Some, None, is_some, subst, sym, append-nil}
 use Rattle.std.specs.List.{list_any}
 use Rattle.smart_statements.specs.Forms.{SignedBy}
 use Rattle.smart_statements.specs.Equality.{same_slot}
 use Rattle.smart_statements.specs.declared.statement.Slot.{Slot}
 use Rattle.smart_messages.specs.declared.regency.Sync.{Sync}
 use Rattle.smart_messages.specs.declared.message.Proposed.{Proposed}
-use Rattle.smart_messages.specs.declared.message.Message.{Message}
 use Rattle.smart_statements.specs.declared.entry.NodeEvent.{NodeEvent}
 use Rattle.smart_service.specs.Services.{Meaning}
 use Rattle.vote_book.specs.Admission.{accepts_in}
@@ -15,8 +14,9 @@ use Rattle.vote_book.specs.declared.entry.Decision.{Decision}
 use Rattle.vote_book.specs.declared.entry.Promise.{Promise}
 use Rattle.vote_book.specs.declared.entry.Start.{Start}
 use Rattle.vote_book.specs.declared.entry.LogEntry.{LogEntry}
-use Rattle.vote_book.specs.declared.entry.LogEntry.TheVariants.{Wrote, Accepted, Promised, Synced, Decided}
+use Rattle.vote_book.specs.declared.entry.LogEntry.TheVariants.{Wrote, Accepted, Promised, Synced, Decided, Installed, Marked}
 use Rattle.node_rules.specs.Rules.{delivers, proposes, writing, write_batch, writes, accepting, accept_batch, accepts, deciding, decide_batch, decides, answers_again}
+use Rattle.node_rules.specs.Marks.{mark_of, mark_place}
 use Rattle.node_rules.specs.Nodes.{Node, regency_of, is_open, open_slot}
 use Rattle.node_rules.specs.Arrivals.{kept, noted}
 use Rattle.node_rules.specs.Changes.{start_by_sync, promised_for, adopts_by, adoption, adopts, joins, next_promise, promising, promise_next, promises, leads, times}
@@ -24,7 +24,9 @@ use Rattle.node_rules.specs.Kept.{node_after}
 use Rattle.node_rules.specs.Steps.{step_of}
 use Rattle.replica_laws.specs.Books.{passing, AcceptsOnce}
 use Rattle.node_rules.proofs.Rulewise.{KeptByRules, KeptInSteps, free-event, keeps_step}
-use Rattle.node_rules.proofs.Entries.{kept_same, delivers_same, proposes_same, joins_same, leads_same, times_same, noted_same, answers_again_same}
+use Rattle.node_rules.proofs.Entries.{kept_same, delivers_same, proposes_same, joins_same, leads_same, times_same, noted_same, answers_again_same, answers_state_same, plans_same}
+use Rattle.node_rules.specs.Transfers.{answers_state, plans}
+use Rattle.replica_laws.proofs.Installs.{book-installs}
 use Rattle.smart_base.proofs.SameLists.{and_true}
 use Rattle.agreement_laws.proofs.Lists.{not_true, either}
 use Rattle.vote_book.proofs.Tested.{slot_is}
@@ -114,6 +116,10 @@ unfolding accepting
 accepts_where_none n some =
     not_true _ (and_true (is_open n) (not (list_any (accepts_in (open_slot n)) n.entries)) (guard_passed _ _ some)).1
 
+once-mark : {S : Type 0} (m : Meaning S) (n : Node S) → Once n → Once (mark_place m n)
+unfolding mark_place
+once-mark m n once = once_more n.entries (Marked (mark_of m n)) (λ slot. refl) once
+
 once-writes : {S : Type 0} (n : Node S) → Once n → Once (writes n)
 unfolding writes
 once-writes n once = once-write_batch n (writing n) once
@@ -137,7 +143,9 @@ once-rules {S} = record {
   by_accepts = λ n once. once-accepts n once;
   by_decides = λ n once. once-decides n once;
   by_times = λ n once. once_as n (times n) (times_same n) once;
-  by_answers = λ n message once. once_as n (answers_again n message) (answers_again_same n message) once;
+  by_answers = λ n asked once. once_as n (answers_again n asked) (answers_again_same n asked) once;
+  by_states = λ n a once. once_as n (answers_state n a) (answers_state_same n a) once;
+  by_plans = λ n once. once_as n (plans n) (plans_same n) once;
 }
 
 once-in_steps : {S : Type 0} (m : Meaning S) → KeptInSteps m (λ n. Once n) (λ message. Unit {0})
@@ -145,7 +153,9 @@ once-in_steps m = record {
   by_rules = once-rules;
   by_noted = λ n message once. once_as n (noted n message) (noted_same n message) once;
   by_kept = λ n message fine may once. once_as n (kept n message) (kept_same n message) once;
+  by_installs = λ n once. book-installs m n (λ (es : List LogEntry). AcceptsOnce es) (λ es i all. once_more es (Installed i) (λ slot. refl) all) once;
   by_delivers = λ n once. once_as n (delivers m n) (delivers_same m n) once;
+  by_marks = λ n waits once delivered. once-mark m (delivers m n) delivered;
   by_firm = λ x count once. once;
 }
 

@@ -1,16 +1,16 @@
 -- Each message that a node holds is its own and rests on entries that it waits for; and a node's book only grows.
-use Rattle.std.proofs.Common.{◌≡◌, ℕ, zero, suc, ◌+◌, ◌^◌, ◌≤◌, ◌++◌, nat_lt, true, false, List, [], ◌∷◌, length, refl, ap, ◌∙◌, sym, arith, Option, Some, None, subst, append-nil, append_assoc, length-append, take}
+use Rattle.std.proofs.Common.{◌≡◌, ℕ, zero, suc, ◌+◌, ◌≤◌, ◌++◌, ◌==◌, nat_lt, Bool, true, false, cond, List, [], ◌∷◌, length, refl, ap, ◌∙◌, sym, arith, Option, Some, None, Result, Ok, Err, is_some, subst, append-nil, append_assoc, length-append, take}
 use Rattle.std.proofs.lemmas.List.{take_all}
-use Rattle.std.specs.Prelude.{IfSome}
-use Rattle.smart_base.specs.Lists.{Each, or_else}
+use Rattle.std.specs.Prelude.{IfSome, map, option_map}
+use Rattle.smart_base.specs.Lists.{Each}
 use Rattle.smart_base.specs.Views.{View, is_member, leader}
 use Rattle.smart_statements.specs.Forms.{SignedBy}
 use Rattle.smart_statements.specs.Batches.{Batch}
 use Rattle.smart_messages.specs.Messages.{decoded}
 use Rattle.smart_statements.specs.Kinds.{proposals}
+use Rattle.smart_statements.specs.Reports.{marks}
 use Rattle.smart_messages.specs.Regencies.{syncs}
 use Rattle.smart_statements.specs.declared.statement.Request.{Request}
-use Rattle.smart_statements.specs.declared.statement.Slot.{Slot}
 use Rattle.smart_statements.specs.declared.statement.VoteKind.TheVariants.{Write, Accept}
 use Rattle.smart_statements.specs.declared.report.Report.{Report}
 use Rattle.smart_messages.specs.declared.regency.Sync.{Sync}
@@ -28,31 +28,50 @@ use Rattle.vote_book.proofs.Tested.{made_within}
 use Rattle.vote_book.specs.declared.entry.Decision.{Decision}
 use Rattle.vote_book.specs.declared.entry.LogEntry.{LogEntry}
 use Rattle.vote_book.specs.declared.entry.LogEntry.TheVariants as entries
-use Rattle.agreement_laws.specs.Diaries.{HasReached, HasReported}
+use Rattle.agreement_laws.specs.Diaries.{HasReached, HasReported, IsShown}
 use Rattle.replica_rules.specs.Replicas.{is_next, delivered, executed_lines, at_next}
 use Rattle.replica_rules.specs.Seals.{signed, digest_of}
 use Rattle.replica_rules.specs.Pools.{offered, settled}
-use Rattle.node_rules.specs.Rules.{reply_of, replying, lines_to_answer, deliver_batch, delivers, proposing, propose_batch, proposes, ballot, writing, write_batch, writes, accepting, accept_batch, accepts, slot_in, decision_in, decision_ahead, deciding, decide_batch, decides, answering, answer_line, answers_again}
-use Rattle.node_rules.specs.Nodes.{Node, view_of, regency_of, next_place, open_slot, is_free, holding, recording}
-use Rattle.node_rules.specs.Votes.{Named, certificate_votes, decision_by}
+use Rattle.node_rules.specs.Rules.{reply_of, replying, lines_to_answer, deliver_batch, delivers, proposing, propose_batch, proposes, ballot, writing, write_batch, writes, accepting, accept_batch, accepts, deciding, decide_batch, decides, answering, answer_line, answers_again}
+use Rattle.node_rules.specs.Nodes.{Node, view_of, regency_of, next_place, open_slot, holding, holding_all, recording, signs}
+use Rattle.node_rules.specs.Votes.{certificate_votes}
 use Rattle.node_rules.specs.Arrivals.{kept, noted}
-use Rattle.node_rules.specs.Changes.{start_by_sync, promised_for, adopts_by, adoption, adopts, stop_for, asks_next, joining, joins, report_of, reported_by, next_promise, promising, promise_next, promises, leading, lead_with, leads, timing, passes_on, presses, times}
+use Rattle.node_rules.specs.Changes.{start_by_sync, promised_for, adopts_by, adoption, adopts, stop_for, asks_next, joining, joins, report_of, reported_by, next_promise, promising, promise_next, promises, leading, lead_with, leads, lags, state_ask, asks_state, timing, passes_on, presses, times}
 use Rattle.node_rules.specs.Steps.{made_firm, takes_in, step_of, released, opened, outset}
+use Rattle.node_rules.specs.Marks.{mark_of, mark_place, firm_at}
+use Rattle.node_rules.specs.Transfers.{installing, installed_by, install_replica, is_of_group, spoil, install_by, install_fetch, installs, marks_past, last_few, offer_for, decided_at, shown_as, is_shown_place, places_after, shown_at, shown_after, offers_state, part_messages, gives_parts, answers_state, planning, follow_plan, plans}
+use Rattle.node_rules.specs.declared.node.OwnSnapshot.{OwnSnapshot}
+use Rattle.state_transfer.specs.Fetches.{finished, joined_of}
+use Rattle.state_transfer.specs.Seeds.{seeds}
+use Rattle.state_transfer.specs.declared.choice.Plan.{Plan}
+use Rattle.state_transfer.specs.declared.fetch.Fetch.{Fetch}
+use Rattle.state_transfer.specs.declared.fetch.Spoiled.{Spoiled}
+use Rattle.transfer_form.specs.declared.transfer.StateAsk.{StateAsk}
+use Rattle.transfer_form.specs.declared.transfer.StatePart.{StatePart}
+use Rattle.smart_base.specs.declared.limits.TheConstants.{MARKS}
+use Rattle.smart_service.specs.declared.replica.Replica.{Replica}
+use Rattle.smart_statements.specs.declared.report.Mark.{Mark}
+use Rattle.vote_book.proofs.Last.{last_push}
+use Rattle.node_laws.proofs.Deciding.{due_is}
+use Rattle.node_laws.proofs.Installing.{IsReady, installing_is, marks_stand}
+use Rattle.node_laws.proofs.Lists.{each_filter_map_in}
+use Rattle.node_laws.proofs.Planning.{IsTakenFrom, finished_from, restored_low}
 use Rattle.node_rules.specs.declared.node.Held.{Held}
 use Rattle.node_rules.specs.declared.node.Target.{Target}
 use Rattle.node_rules.specs.declared.node.Target.TheVariants as targets
 use Rattle.replica_laws.specs.Sending.{IsOwn, RestsOn}
-use Rattle.replica_laws.proofs.Lists.{if_or, if_cond}
 use Rattle.replica_laws.proofs.Executions.{OfRequest, of_delivered}
 use Rattle.replica_laws.proofs.Again.{ForLine, answering-each, each-delivered}
-use Rattle.node_rules.proofs.Rulewise.{KeptByRules, free-read, reads_as, keeps_from}
-use Rattle.agreement_laws.proofs.Lists.{among_left, either, each_end}
+use Rattle.node_rules.proofs.Rulewise.{KeptByRules, by_mark, free-read, reads_as, keeps_from}
+use Rattle.agreement_laws.proofs.Lists.{among_left, either, each_end, some_equal}
 use Rattle.node_laws.proofs.Lists.{among_last}
-use Rattle.agreement_laws.specs.Statements.{head}
+use Rattle.agreement_laws.specs.Statements.{Statement}
+use Rattle.agreement_laws.specs.Statements as says
 use Rattle.agreement_laws.proofs.Growing.{HasReached-more, IsShown-more}
 use Rattle.smart_base.proofs.ViewFacts.{each-weaken}
 use Rattle.node_laws.proofs.Passes.{each_staying}
 use Rattle.node_rules.specs.declared.node.Asked.{Asked}
+use Rattle.std.specs.List.{filter_map}
 
 -- ---- longer books
 
@@ -78,7 +97,8 @@ longer-front (suc k) (suc j) (x ∷ xs) le = let rest = longer-front k j xs (ome
 
 -- what a message rests on stands in a longer book too
 pub rests-more : (xs ys : List LogEntry) → Longer xs ys → (message : Message) → RestsOn xs message → RestsOn ys message
-rests-more xs ys longer message rests = subst (λ (es : List LogEntry). RestsOn es message) (sym longer.split) (IsShown-more digest_of xs longer.more (head message) rests)
+rests-more xs ys longer message rests = subst (λ (es : List LogEntry). RestsOn es message) (sym longer.split)
+    (each-weaken (IsShown digest_of xs) (IsShown digest_of (xs ++ longer.more)) (λ s shown. IsShown-more digest_of xs longer.more s shown) (says.own message) rests)
 
 -- ---- nodes
 
@@ -185,7 +205,7 @@ onward-replying : {S : Type 0} (n : Node S) (lines : List Execution) → Each (L
 onward-replying n [] each is = onward-same n is
 onward-replying n (l ∷ ls) each is =
     let f = onward-replying (holding n (targets.Client l.client) (reply_of n.secret n.id l)) ls each.1
-    (rests-holding n (targets.Client l.client) (reply_of n.secret n.id l) (refl, refl) each.0 is) in
+    (rests-holding n (targets.Client l.client) (reply_of n.secret n.id l) (refl, refl) (each.0, tt) is) in
     record { id = f.id; firm = f.firm; more = f.more; book = f.book; rests = f.rests }
 
 -- the replies to a batch that is decided rest on its decision
@@ -222,6 +242,7 @@ onward-kept {S = S} n (Ask q) is =
     (record { id = refl; firm = refl; more = []; book = sym (append-nil n.entries); rests = record { held = is.held; waits = is.waits; lines = is.lines } })
     (onward-same n is)
 onward-kept n (Reply a) is = onward-same n is
+onward-kept n (changes.StateAsk a) is = onward-same n is
 onward-kept n _ is = record { id = refl; firm = refl; more = []; book = sym (append-nil n.entries); rests = record { held = is.held; waits = is.waits; lines = is.lines } }
 
 -- a node is told that it is behind
@@ -239,16 +260,16 @@ onward-holding n to message own rests is =
 onward-answer_line : {S : Type 0} (n : Node S) (line : Option Execution) → ForLine line (LineRests n.entries) → NodeRests n → Onward n (answer_line n line)
 unfolding answer_line
 onward-answer_line n None rests is = onward-same n is
-onward-answer_line n (Some line) rests is = onward-holding n (targets.Client line.client) (reply_of n.secret n.id line) (refl, refl) rests is
+onward-answer_line n (Some line) rests is = onward-holding n (targets.Client line.client) (reply_of n.secret n.id line) (refl, refl) (rests, tt) is
 
-onward-answers_again : {S : Type 0} (n : Node S) (asked : Option Asked) → NodeRests n → Onward n (answers_again n asked)
+onward-answers_again : {S : Type 0} (n : Node S) (asked : Asked) → NodeRests n → Onward n (answers_again n asked)
 unfolding answers_again
 onward-answers_again n asked is = onward-answer_line n (answering n asked) (answering-each (LineRests n.entries) n asked is.lines) is
 
 -- the next regency is asked for
 onward-asks_next : {S : Type 0} (n : Node S) → NodeRests n → Onward n (asks_next n)
 onward-asks_next {S = S} n is =
-    let f = onward-holding (record n { stop_made = true }) targets.View (stop_for n) refl tt (record { held = is.held; waits = is.waits; lines = is.lines }) in
+    let f = onward-holding (record n { stop_made = true }) targets.View (stop_for n) refl (tt, tt) (record { held = is.held; waits = is.waits; lines = is.lines }) in
     record { id = f.id; firm = f.firm; more = f.more; book = f.book; rests = f.rests }
 
 onward-joins : {S : Type 0} (n : Node S) → NodeRests n → Onward n (joins n)
@@ -261,7 +282,7 @@ unfolding lead_with
 onward-lead_with n None is = onward-same n is
 onward-lead_with n (Some collect) is =
     let f = onward-holding (record n { sync_made = true }) targets.View
-    (changes.Sync (signed syncs n.secret n.id (record { view = (view_of n).number; regency = regency_of n; collect = collect }))) refl tt
+    (changes.Sync (signed syncs n.secret n.id (record { view = (view_of n).number; regency = regency_of n; collect = collect }))) refl (tt, tt)
     (record { held = is.held; waits = is.waits; lines = is.lines }) in
     record { id = f.id; firm = f.firm; more = f.more; book = f.book; rests = f.rests }
 
@@ -272,7 +293,7 @@ onward-leads n is = onward-lead_with n (leading n) is
 -- time passes
 onward-passes_on : {S : Type 0} (n : Node S) (pool : List (SignedBy Request)) → NodeRests n → Onward n (passes_on n pool)
 onward-passes_on n [] is = onward-same n is
-onward-passes_on n (q ∷ qs) is = onward-holding n (targets.Node (leader (view_of n) (regency_of n))) (Ask q) tt tt is
+onward-passes_on n (q ∷ qs) is = onward-holding n (targets.Node (leader (view_of n) (regency_of n))) (Ask q) tt (tt, tt) is
 
 onward-presses : {S : Type 0} (n : Node S) → NodeRests n → Onward n (presses n)
 unfolding presses
@@ -281,9 +302,19 @@ onward-presses {S = S} n is =
     let f = onward-passes_on x n.pool (record { held = is.held; waits = is.waits; lines = is.lines }) in
     either (λ (y : Node S). Onward n y) n.impatient (asks_next n) (passes_on x n.pool) (onward-asks_next n is) (record { id = f.id; firm = f.firm; more = f.more; book = f.book; rests = f.rests })
 
+-- state is asked for
+onward-asks_state : {S : Type 0} (n : Node S) → NodeRests n → Onward n (asks_state n)
+unfolding asks_state
+onward-asks_state {S = S} n is =
+    let x : Node S = record n { offers = []; fetch = None; behind = false } in
+    let f = onward-holding x targets.View (state_ask n 0) refl tt (record { held = is.held; waits = is.waits; lines = is.lines }) in
+    record { id = f.id; firm = f.firm; more = f.more; book = f.book; rests = f.rests }
+
 onward-times : {S : Type 0} (n : Node S) → NodeRests n → Onward n (times n)
 unfolding times
-onward-times {S = S} n is = either (λ (x : Node S). Onward n x) (timing n) (presses n) n (onward-presses n is) (onward-same n is)
+onward-times {S = S} n is =
+    either (λ (x : Node S). Onward n x) (lags n) (asks_state n) _ (onward-asks_state n is)
+    (either (λ (x : Node S). Onward n x) (timing n) (presses n) n (onward-presses n is) (onward-same n is))
 
 -- entries are recorded
 onward-recording : {S : Type 0} (n : Node S) (e : LogEntry) → NodeRests n → Onward n (recording n e)
@@ -332,7 +363,7 @@ onward-promise_next {S = S} n is =
     let e : LogEntry = entries.Promised (next_promise n) in
     let x : Node S = record (recording n e) { stop_made = false; sync_made = false; impatient = true } in
     let r = rests-recording n e is in
-    let f = onward-holding x (targets.Node (leader (view_of n) (regency_of n + 1))) (changes.StopData (reported_by n (regency_of n + 1))) (refl, tt) (promise-reports n)
+    let f = onward-holding x (targets.Node (leader (view_of n) (regency_of n + 1))) (changes.StopData (reported_by n (regency_of n + 1))) (refl, tt) (promise-reports n, tt)
     (record { held = r.held; waits = r.waits; lines = r.lines }) in
     record { id = refl; firm = refl; more = e ∷ []; book = refl; rests = record { held = f.rests.held; waits = f.rests.waits; lines = f.rests.lines } }
 
@@ -346,7 +377,7 @@ unfolding propose_batch
 onward-propose_batch n None is = onward-same n is
 onward-propose_batch n (Some batch) is =
     let f = onward-holding (record n { proposed = n.proposed ++ open_slot n ∷ [] }) targets.View
-    (Propose (record { head = signed proposals n.secret n.id (record { slot = open_slot n; digest = digest_of batch }); batch = batch })) refl tt
+    (Propose (record { head = signed proposals n.secret n.id (record { slot = open_slot n; digest = digest_of batch }); batch = batch })) refl (tt, tt)
     (record { held = is.held; waits = is.waits; lines = is.lines }) in
     record { id = f.id; firm = f.firm; more = f.more; book = f.book; rests = f.rests }
 
@@ -360,7 +391,7 @@ unfolding write_batch
 onward-write_batch n None is = onward-same n is
 onward-write_batch n (Some p) is =
     let entry : LogEntry = entries.Wrote (record { slot = open_slot n; digest = p.head.statement.digest }) in
-    let r = rests-holding (recording n entry) targets.View (ballot n Write p.head.statement.digest) refl (among_last entry n.entries) (rests-recording n entry is) in
+    let r = rests-holding (recording n entry) targets.View (ballot n Write p.head.statement.digest) refl (among_last entry n.entries, tt) (rests-recording n entry is) in
     record { id = refl; firm = refl; more = entry ∷ []; book = refl; rests = record { held = r.held; waits = r.waits; lines = r.lines } }
 
 onward-writes : {S : Type 0} (n : Node S) → NodeRests n → Onward n (writes n)
@@ -379,7 +410,7 @@ onward-accept_batch n (Some p) is =
       batch = p.batch;
     }) in
     let r = rests-holding (recording n entry) targets.View (ballot n Accept p.head.statement.digest) refl
-    (record { entry = _; there = among_last entry n.entries; slot_is = refl; digest_is = refl }) (rests-recording n entry is) in
+    (record { entry = _; there = among_last entry n.entries; slot_is = refl; digest_is = refl }, tt) (rests-recording n entry is) in
     record { id = refl; firm = refl; more = entry ∷ []; book = refl; rests = record { held = r.held; waits = r.waits; lines = r.lines } }
 
 onward-accepts : {S : Type 0} (n : Node S) → NodeRests n → Onward n (accepts n)
@@ -388,25 +419,12 @@ onward-accepts n is = onward-accept_batch n (accepting n) is
 
 -- a batch is decided at the next place, and waits
 
--- a decision is of its slot
-decision_by-slot : (view : View) (slot : Slot) (n_arrivals : List Message) (found : Option Named) → IfSome (decision_by view slot n_arrivals found) (λ (d : Decision). d.slot ≡ slot)
-decision_by-slot view slot n_arrivals None = tt
-decision_by-slot view slot n_arrivals (Some x) = refl
-
-decision_in-place : {S : Type 0} (n : Node S) (regency : ℕ) → IfSome (decision_in n regency) (λ (d : Decision). d.slot.place ≡ next_place n)
-unfolding decision_in
-decision_in-place n regency = found _ (decision_by-slot (view_of n) (slot_in n regency) n.arrivals _)
-  where
-    found : (o : Option Decision) → IfSome o (λ (d : Decision). d.slot ≡ slot_in n regency) → IfSome o (λ (d : Decision). d.slot.place ≡ next_place n)
-    found None is = tt
-    found (Some d) is = ap (λ (s : Slot). s.place) is
-
 pub deciding-place : {S : Type 0} (n : Node S) → IfSome (deciding n) (λ (d : Decision). d.slot.place ≡ next_place n)
-unfolding deciding
-deciding-place n =
-    if_cond (λ (d : Decision). d.slot.place ≡ next_place n) (is_free n) (or_else (decision_in n (regency_of n)) (decision_ahead n))
-    (λ free. if_or (λ (d : Decision). d.slot.place ≡ next_place n) (decision_in n (regency_of n)) (decision_ahead n) (decision_in-place n (regency_of n))
-    (if_cond (λ (d : Decision). d.slot.place ≡ next_place n) (nat_lt (regency_of n + 1) (2 ^ 32)) (decision_in n (regency_of n + 1)) (λ room. decision_in-place n (regency_of n + 1))))
+deciding-place n = by (deciding n) refl
+  where
+    by : (o : Option Decision) → deciding n ≡ o → IfSome o (λ (d : Decision). d.slot.place ≡ next_place n)
+    by None at = tt
+    by (Some d) at = (due_is n d at).place_is
 
 onward-decide_batch : {S : Type 0} (n : Node S) (d : Option Decision) → IfSome d (λ (x : Decision). x.slot.place ≡ next_place n) → NodeRests n → Onward n (decide_batch n d)
 unfolding decide_batch
@@ -425,6 +443,134 @@ onward-decides : {S : Type 0} (n : Node S) → NodeRests n → Onward n (decides
 unfolding decides
 onward-decides n is = onward-decide_batch n (deciding n) (deciding-place n) is
 
+-- a place is marked, and the mark rests on the entry
+onward-mark : {S : Type 0} (m : Meaning S) (n : Node S) → NodeRests n → Onward n (mark_place m n)
+unfolding mark_place
+onward-mark m n is =
+    let entry : LogEntry = entries.Marked (mark_of m n) in
+    let r = rests-holding (recording n entry) targets.View (changes.Mark (signed marks n.secret n.id (mark_of m n))) refl (among_last entry n.entries, tt) (rests-recording n entry is) in
+    record { id = refl; firm = refl; more = entry ∷ []; book = refl; rests = record { held = r.held; waits = r.waits; lines = r.lines } }
+
+-- ---- a replica is taken over, or given
+
+-- a message that a node may hold, and that rests on its book
+abbrev MayHold : {S : Type 0} → Node S → Target → Message → Type 0
+MayHold n to message = IsOwn n.id to message × RestsOn n.entries message
+
+onward-holding_all : {S : Type 0} (n : Node S) (to : Target) (messages : List Message) → Each (MayHold n to) messages → NodeRests n → Onward n (holding_all n to messages)
+onward-holding_all n to [] each is = onward-same n is
+onward-holding_all {S = S} n to (m ∷ ms) each is =
+    let x : Node S = holding n to m in
+    let f : Onward n x = onward-holding n to m each.0.0 each.0.1 is in
+    onward-then n x (holding_all x to ms) f (onward-holding_all x to ms each.1 f.rests)
+
+-- the marks of an offer are the node's own, and stand in its book
+marks_own : {S : Type 0} (n : Node S) (ks : List Mark) → Each (λ m. m.signer ≡ n.id) (map (λ (k : Mark). signs n marks k) ks)
+marks_own n [] = tt
+marks_own n (k ∷ ks) = (refl, marks_own n ks)
+
+marks_rest : {S : Type 0} (n : Node S) (ks : List Mark) → Each (λ (k : Mark). Among (entries.Marked k) n.entries) ks
+    → Each (IsShown digest_of n.entries) (map says.Marked (map (λ (k : Mark). signs n marks k) ks))
+marks_rest n [] each = tt
+marks_rest n (k ∷ ks) each = (each.0, marks_rest n ks each.1)
+
+shown_held : {S : Type 0} (n : Node S) (member k : ℕ) (message : Message) → shown_at n k ≡ Some message → MayHold n (targets.Node member) message
+shown_held {S = S} n member k message at = by (is_shown_place n k) at
+  where
+    decided : (o : Option Decision) → option_map (λ (d : Decision). changes.Decision (shown_as d)) o ≡ Some message → MayHold n (targets.Node member) message
+    decided None said = absurd cc
+    decided (Some d) said = subst (λ (x : Message). MayHold n (targets.Node member) x) (some_equal (changes.Decision (shown_as d)) message said) (tt, tt)
+
+    by : (t : Bool) → cond t (option_map (λ (d : Decision). changes.Decision (shown_as d)) (decided_at k n.entries)) None ≡ Some message → MayHold n (targets.Node member) message
+    by true said = decided (decided_at k n.entries) said
+    by false said = absurd cc
+
+offer_held : {S : Type 0} (n : Node S) (member place : ℕ) → MayHold n (targets.Node member) (changes.StateOffer (offer_for n place))
+unfolding offer_for
+offer_held n member place =
+    let ks : List Mark = last_few MARKS (marks_past place n.entries) in
+    ((refl, (marks_own n ks, tt)), marks_rest n ks (marks_stand place n.entries))
+
+onward-offers_state : {S : Type 0} (n : Node S) (a : StateAsk) → NodeRests n → Onward n (offers_state n a)
+unfolding offers_state shown_after
+onward-offers_state n a is =
+    onward-holding_all n (targets.Node a.member) (changes.StateOffer (offer_for n a.place) ∷ filter_map (shown_at n) (places_after a.place 8))
+    (offer_held n a.member a.place, each_filter_map_in (MayHold n (targets.Node a.member)) (shown_at n) (places_after a.place 8) (λ k message there at. shown_held n a.member k message at)) is
+
+parts_held : {S : Type 0} (n : Node S) (member : ℕ) (ps : List StatePart) → Each (MayHold n (targets.Node member)) (map (λ (p : StatePart). changes.StatePart p) ps)
+parts_held n member [] = tt
+parts_held n member (p ∷ ps) = ((tt, tt), parts_held n member ps)
+
+part_messages_held : {S : Type 0} (n : Node S) (member : ℕ) (o : Option OwnSnapshot) → Each (MayHold n (targets.Node member)) (part_messages o)
+part_messages_held n member None = tt
+part_messages_held n member (Some s) = parts_held n member (seeds s.place s.snapshot)
+
+onward-gives_parts : {S : Type 0} (n : Node S) (a : StateAsk) → NodeRests n → Onward n (gives_parts n a)
+unfolding gives_parts
+onward-gives_parts n a is = onward-holding_all n (targets.Node a.member) (part_messages (firm_at n a.fetch)) (part_messages_held n a.member (firm_at n a.fetch)) is
+
+onward-answers_state : {S : Type 0} (n : Node S) (a : StateAsk) → NodeRests n → Onward n (answers_state n a)
+unfolding answers_state
+onward-answers_state {S = S} n a is =
+    either (λ (x : Node S). Onward n x) (a.fetch == 0) (offers_state n a) (gives_parts n a) (onward-offers_state n a is) (onward-gives_parts n a is)
+
+onward-follow_plan : {S : Type 0} (n : Node S) (plan : Option Plan) → NodeRests n → Onward n (follow_plan n plan)
+unfolding follow_plan
+onward-follow_plan n None is = onward-same n is
+onward-follow_plan {S = S} n (Some p) is =
+    let x : Node S = record n { fetch = Some (record { plan = p; parts = [] }) } in
+    let f = onward-holding x (targets.Node p.seeder) (state_ask n p.place) refl tt (record { held = is.held; waits = is.waits; lines = is.lines }) in
+    record { id = f.id; firm = f.firm; more = f.more; book = f.book; rests = f.rests }
+
+onward-plans : {S : Type 0} (n : Node S) → NodeRests n → Onward n (plans n)
+unfolding plans
+onward-plans n is = onward-follow_plan n (planning n) is
+
+onward-spoil : {S : Type 0} (n : Node S) (f : Fetch) → NodeRests n → Onward n (spoil n f)
+unfolding spoil
+onward-spoil n f is = record { id = refl; firm = refl; more = []; book = sym (append-nil n.entries); rests = record { held = is.held; waits = is.waits; lines = is.lines } }
+
+no_batch : (waiting : Option Batch) (es : List LogEntry) (place : ℕ) → waiting ≡ None → IsDecided place es waiting
+no_batch None es place is = tt
+no_batch (Some batch) es place is = absurd cc
+
+onward-install_replica : {S : Type 0} (m : Meaning S) (n : Node S) (f : Fetch) (r : Replica S) → IsReady n f → IsTakenFrom m f r → NodeRests n → Onward n (install_replica n f r)
+unfolding install_replica
+onward-install_replica {S = S} m n f r due from is =
+    let e : LogEntry = installed_by f.plan in
+    let es : List LogEntry = n.entries ++ e ∷ [] in
+    let pushed = last_push n.entries e in
+    let at : r.place ≡ f.plan.place = from.place_is in
+    let g = rests-recording n e is in
+    let x : Node S = record n {
+      entries = es;
+      replica = r;
+      pool = settled r.table n.pool;
+      fetch = None;
+      taken = n.taken ++ record { place = f.plan.place; snapshot = joined_of f; needs = length es } ∷ [];
+    } in
+    let rests : NodeRests x = record {
+      held = g.held;
+      waits = no_batch n.waiting es (r.place + 1) due.free;
+      lines = each-weaken (λ (line : Execution). line.place ≤ r.place) (LineRests es) (λ line low. omega (arith, low, at, pushed)) (kept_in r.table) (restored_low m (joined_of f) r from.read);
+    } in
+    let h = onward-holding x targets.View (state_ask x 0) refl tt rests in
+    record { id = refl; firm = refl; more = e ∷ []; book = refl; rests = record { held = h.rests.held; waits = h.rests.waits; lines = h.rests.lines } }
+
+onward-install_by : {S : Type 0} (m : Meaning S) (n : Node S) (f : Fetch) (made : Result (Replica S) Spoiled) → IsReady n f → finished m f ≡ made → NodeRests n → Onward n (install_by n f made)
+onward-install_by {S = S} m n f (Ok r) due at is =
+    either (λ (x : Node S). Onward n x) (is_of_group n r) (install_replica n f r) (spoil n f) (onward-install_replica m n f r due (finished_from m f r at) is) (onward-spoil n f is)
+onward-install_by m n f (Err why) due at is = onward-spoil n f is
+
+onward-install_fetch : {S : Type 0} (m : Meaning S) (n : Node S) (due : Option Fetch) → installing n ≡ due → NodeRests n → Onward n (install_fetch m n due)
+unfolding install_fetch
+onward-install_fetch m n None at is = onward-same n is
+onward-install_fetch m n (Some f) at is = onward-install_by m n f (finished m f) (installing_is n f at) refl is
+
+pub onward-installs : {S : Type 0} (m : Meaning S) (n : Node S) → NodeRests n → Onward n (installs m n)
+unfolding installs
+onward-installs m n is = onward-install_fetch m n (installing n) refl is
+
 -- ---- steps
 
 onward-rules : {S : Type 0} (a : Node S) → KeptByRules (λ n. Onward a n)
@@ -439,6 +585,8 @@ onward-rules a = record {
   by_decides = λ n is. onward-then a n (decides n) is (onward-decides n is.rests);
   by_times = λ n is. onward-then a n (times n) is (onward-times n is.rests);
   by_answers = λ n asked is. onward-then a n (answers_again n asked) is (onward-answers_again n asked is.rests);
+  by_states = λ n ask is. onward-then a n (answers_state n ask) is (onward-answers_state n ask is.rests);
+  by_plans = λ n is. onward-then a n (plans n) is (onward-plans n is.rests);
 }
 
 -- the node as an event finds it: firmness is what the event says
@@ -465,9 +613,14 @@ onward-takes_in n (Firm count) is = onward-same (made_firm n count) (record { he
 pub onward-step : {S : Type 0} (m : Meaning S) (n : Node S) (event : NodeEvent) → NodeRests n → Onward (told_firm n event) (step_of m n event).node
 onward-step {S = S} m n event is =
     let a : Node S = told_firm n event in
-    let t : Node S = (takes_in n event).node in
-    let taken : Onward a t = onward-takes_in n event is in
-    keeps_from m (λ (x : Node S). Onward a x) n event (onward-rules a) taken (onward-then a t (delivers m t) taken (onward-delivers m t taken.rests))
+    let taken_in : Node S = (takes_in n event).node in
+    let taken : Onward a taken_in = onward-takes_in n event is in
+    let t : Node S = installs m taken_in in
+    let installed : Onward a t = onward-then a taken_in t taken (onward-installs m taken_in taken.rests) in
+    let delivered : Onward a (delivers m t) = onward-then a t (delivers m t) installed (onward-delivers m t installed.rests) in
+    keeps_from m (λ (x : Node S). Onward a x) n event (onward-rules a) taken installed
+    (by_mark m (λ (x : Node S). Onward a x) (is_some t.waiting) (delivers m t) delivered
+    (λ due. onward-then a (delivers m t) (mark_place m (delivers m t)) delivered (onward-mark m (delivers m t) delivered.rests)))
 
 -- what is firm has left
 pub rests-released : {S : Type 0} (n : Node S) → NodeRests n → NodeRests (released n)

@@ -7,15 +7,16 @@ use Rattle.smart_service.specs.declared.replica.Replica.{Replica}
 use Rattle.vote_book.specs.declared.entry.Decision.{Decision}
 use Rattle.replica_rules.specs.Replicas.{delivered}
 use Rattle.replica_rules.specs.Pools.{settled}
-use Rattle.node_rules.specs.Rules.{reply_of, replying, lines_to_answer, deliver_batch, deciding, decide_batch, decides}
+use Rattle.node_rules.specs.Rules.{reply_of, replying, lines_to_answer, deliver_batch, delivers, deciding, decide_batch, decides}
 use Rattle.node_rules.specs.Nodes.{Node, holding}
 use Rattle.node_rules.specs.Steps.{deliver_row, rules, pass}
 use Rattle.node_rules.specs.declared.node.Cause.{Cause}
 use Rattle.node_rules.specs.declared.node.Fired.{Fired}
 use Rattle.node_rules.specs.declared.node.Target.TheVariants as targets
-use Rattle.replica_laws.proofs.Leaves.{leaves-adopts, leaves-joins, leaves-promises, leaves-leads, leaves-proposes, leaves-writes, leaves-accepts, leaves-times, leaves-answers_again}
+use Rattle.replica_laws.proofs.Leaves.{leaves-adopts, leaves-joins, leaves-promises, leaves-leads, leaves-proposes, leaves-writes, leaves-accepts, leaves-times, leaves-answers_again, leaves-answers_state, leaves-plans}
 use Rattle.replica_laws.proofs.Entered.{Aside, aside-same, aside-then}
-use Rattle.node_rules.proofs.Rulewise.{KeptByRules, keeps_rules}
+use Rattle.node_rules.proofs.Rulewise.{told_installed, KeptByRules, keeps_rules}
+use Rattle.node_rules.specs.Transfers.{installs}
 use Rattle.replica_rules.proofs.Places.{place_delivered}
 
 -- ---- replies
@@ -56,12 +57,15 @@ replica-rules r = record {
   by_decides = λ n is. replica-decides n ∙ is;
   by_times = λ n is. (leaves-times n).replica_is ∙ is;
   by_answers = λ n asked is. (leaves-answers_again n asked).replica_is ∙ is;
+  by_states = λ n a is. (leaves-answers_state n a).replica_is ∙ is;
+  by_plans = λ n is. (leaves-plans n).replica_is ∙ is;
 }
 
--- a pass leaves the replica as a delivery left it
-pub replica-passed : {S : Type 0} (m : Meaning S) (n : Node S) (cause : Cause) (fired : List Fired) → (pass (rules m) n cause fired).0.replica ≡ (deliver_row m n cause fired).0.replica
+-- a pass leaves the replica as an installation and a delivery left it
+pub replica-passed : {S : Type 0} (m : Meaning S) (n : Node S) (cause : Cause) (fired : List Fired)
+    → (pass (rules m) n cause fired).0.replica ≡ (deliver_row m (installs m n) cause (told_installed m n fired)).0.replica
 replica-passed {S = S} m n cause fired =
-    let r : Replica S = (deliver_row m n cause fired).0.replica in
+    let r : Replica S = (deliver_row m (installs m n) cause (told_installed m n fired)).0.replica in
     keeps_rules m (λ (x : Node S). x.replica ≡ r) n cause fired (replica-rules r) refl
 
 -- a batch that waits takes the next place where it is delivered
@@ -72,3 +76,8 @@ place-deliver_batch {S = S} m n (Some batch) waits =
     let r : Replica S = delivered m n.replica batch in
     ap (λ (x : Replica S). x.place) (replica-replying (record n { replica = r; waiting = None; pool = settled r.table n.pool; impatient = false }) (lines_to_answer m n batch))
     ∙ place_delivered m n.replica batch
+
+-- so does the rule that delivers
+pub place-delivers : {S : Type 0} (m : Meaning S) (n : Node S) → is_some n.waiting ≡ true → (delivers m n).replica.place ≡ n.replica.place + 1
+unfolding delivers
+place-delivers m n waits = place-deliver_batch m n n.waiting waits

@@ -1,17 +1,18 @@
 -- A node's book has few entries: behind its opening each has a source among the bytes that may have come, and entries of a kind have different ones.
-use Rattle.std.proofs.Common.{◌≡◌, ◌⊎◌, inl, inr, ⊎_elim, ℕ, ◌+◌, ◌*◌, ◌^◌, ◌<◌, ◌≤◌, ◌==◌, ◌&&◌, ◌||◌, Bool, true, false, cond, List, [], ◌∷◌, ◌++◌, length, take, drop, filter, refl, ap, ◌∙◌, sym, arith, Option, Some, None, nat_lt, nat_le, subst, append-nil, append_assoc, length-append, Result, Ok}
+use Rattle.std.proofs.Common.{◌≡◌, ◌⊎◌, inl, inr, ⊎_elim, ℕ, zero, suc, ◌+◌, ◌*◌, ◌^◌, ◌<◌, ◌≤◌, ◌==◌, ◌&&◌, ◌||◌, Bool, true, false, cond, List, [], ◌∷◌, ◌++◌, length, take, drop, filter, refl, ap, ◌∙◌, sym, arith, Option, Some, None, nat_lt, nat_le, subst, append-nil, append_assoc, length-append, Result, Ok, Err, not}
 use Rattle.std.proofs.lemmas.Bool.{ltb-true, leb-true, eqb-true, eq-eqb}
-use Rattle.std.proofs.lemmas.List.{take-append-drop}
+use Rattle.std.proofs.lemmas.List.{take-append-drop, length-take-le}
 use Rattle.std.specs.List.{filter_map, cons_option, list_any}
-use Rattle.std.specs.Prelude.{IfSome, find, option_map}
+use Rattle.std.specs.Prelude.{IfSome, find, is_some, option_map}
 use Rattle.smart_base.specs.Lists.{Each, same_bytes, or_else}
+use Rattle.smart_base.specs.Cuts.{whole, ranged, number_at}
 use Rattle.smart_base.specs.Views.{View, quorum}
 use Rattle.smart_statements.specs.Equality.{same_slot, same_kind}
 use Rattle.smart_statements.specs.Forms.{SignedBy}
 use Rattle.smart_statements.specs.Batches.{Batch}
-use Rattle.smart_messages.specs.Messages.{decoded, proposal_in, vote_in, stop_in, sync_in}
+use Rattle.smart_messages.specs.Messages.{decision_in, decoded, proposal_in, vote_in, stop_in, sync_in}
 use Rattle.smart_messages.specs.declared.message.Message.{Message}
-use Rattle.smart_messages.specs.declared.message.Message.TheVariants.{Ask, Propose, Vote}
+use Rattle.smart_messages.specs.declared.message.Message.TheVariants.{Ask, Propose, Vote, Reply}
 use Rattle.smart_messages.specs.declared.message.Proposed.{Proposed}
 use Rattle.smart_messages.specs.declared.message.Message.TheVariants as changes
 use Rattle.smart_messages.specs.declared.regency.Stop.{Stop}
@@ -22,7 +23,7 @@ use Rattle.smart_statements.specs.declared.statement.VoteKind.TheVariants as kin
 use Rattle.smart_statements.specs.declared.entry.NodeEvent.{NodeEvent}
 use Rattle.smart_service.specs.Services.{Meaning}
 use Rattle.smart_service.specs.declared.replica.Replica.{Replica}
-use Rattle.vote_book.specs.Books.{Among, Admits}
+use Rattle.vote_book.specs.Books.{Among, Admits, last_made}
 use Rattle.vote_book.specs.Tidy.{IsTidyAfter}
 use Rattle.vote_book.specs.declared.entry.Decision.{Decision}
 use Rattle.vote_book.specs.declared.entry.Promise.{Promise}
@@ -35,27 +36,46 @@ use Rattle.replica_rules.specs.Pools.{offered, settled}
 use Rattle.replica_rules.specs.Replicas.{is_next, delivered, state}
 use Rattle.agreement_laws.specs.Statements.{Statement}
 use Rattle.node_rules.specs.Votes.{is_vote, has_vote, has_quorum, proposed_in, proposed_for}
-use Rattle.node_rules.specs.Nodes.{Node, view_of, regency_of, regency_in, greatest_regency, open_slot, synchronizer_of}
-use Rattle.node_rules.specs.Arrivals.{kept, noted}
+use Rattle.node_rules.specs.Marks.{mark_of, mark_place}
+use Rattle.node_rules.specs.Nodes.{Node, view_of, regency_of, regency_in, greatest_regency, open_slot, synchronizer_of, next_place}
+use Rattle.node_rules.specs.Arrivals.{kept, noted, part_why, why_dropped, why_ignored, why_part}
 use Rattle.node_rules.specs.Rules.{lines_to_answer, replying, deliver_batch, delivers, proposes, votable, writing, write_batch, writes, written, accepting, accept_batch, accepts, slot_in, deciding, decide_batch, decides, answers_again}
-use Rattle.node_rules.specs.Changes.{start_by_sync, promised_for, adopts_by, is_adoptable, adoption, adopts, joins, next_promise, promising, promise_next, promises, leads, times}
+use Rattle.node_rules.specs.Changes.{start_by_sync, promised_for, adopts_by, is_adoptable, adoption, adopts, joins, next_promise, promising, promise_next, promises, leads, times, asks_state, lags, presses, timing}
 use Rattle.node_rules.specs.Steps.{step_of, released, opened, outset}
-use Rattle.node_rules.specs.Reopening.{decided_of, stopped, reopened}
 use Rattle.node_laws.specs.Restored.{IsSoundBook}
-use Rattle.node_laws.proofs.Deciding.{due_is}
+use Rattle.node_laws.proofs.Deciding.{due_is, FromShown, FromVotes}
 use Rattle.node_laws.proofs.Lists.{each_filter_map_in}
-use Rattle.node_laws.proofs.Reopened.{reopened_is, in_turn, count_is}
-use Rattle.node_laws.proofs.Restored.{front_of}
+use Rattle.node_laws.proofs.Reopened.{in_turn}
 use Rattle.replica_laws.proofs.Lists.{each_given, if_or, if_cond, if_found}
-use Rattle.replica_laws.proofs.Entered.{Aside, aside-joins, aside-leads, aside-proposes, aside-times, aside-answers_again, aside-noted}
+use Rattle.replica_laws.proofs.Entered.{Aside, aside-joins, aside-leads, aside-proposes, aside-presses, aside-answers_again, aside-answers_state, aside-noted}
 use Rattle.node_rules.proofs.Rulewise.{KeptByRules, KeptInSteps, keeps_step, ForEvent}
-use Rattle.replica_laws.proofs.Replying.{aside-replying}
+use Rattle.replica_laws.proofs.MarkPlaces.{stands, IsMarkUpTo, up_to_more, marks_reached, IsAbove, above_all, place_marked, place_decided}
+use Rattle.replica_laws.proofs.Replying.{aside-replying, place-delivers}
+use Rattle.replica_rules.proofs.Places.{place_delivered, state_place}
+use Rattle.node_rules.proofs.Entries.{delivers_same}
 use Rattle.replica_laws.proofs.Checked.{votable-if, written-if}
 use Rattle.vote_book.proofs.Tested.{slot_is}
 use Rattle.smart_base.proofs.SameLists.{and_true}
-use Rattle.agreement_laws.proofs.Lists.{some_equal, either, either_by, each_end, each_both}
+use Rattle.agreement_laws.proofs.Lists.{some_equal, either, either_by, each_end, each_both, each_among, not_false}
 use Rattle.smart_base.proofs.ViewFacts.{each-weaken}
 use Rattle.smart_statements.specs.declared.statement.Ballot.{Ballot}
+use Rattle.book_laws.specs.BookCuts.{cut_at}
+use Rattle.state_transfer.specs.declared.fetch.Ignored.{Ignored}
+use Rattle.node_laws.proofs.Cuts.{cut_each}
+use Rattle.node_laws.proofs.Installing.{IsReady, installing_is}
+use Rattle.node_laws.proofs.Planning.{IsTakenFrom, finished_from}
+use Rattle.node_laws.specs.Restoring.{resumed_node}
+use Rattle.node_rules.proofs.Options.{no_reason}
+use Rattle.node_rules.specs.Transfers.{answers_state, follow_plan, install_by, install_fetch, install_replica, installed_by, installing, installs, is_of_group, planning, plans, spoil}
+use Rattle.node_rules.specs.declared.node.OwnSnapshot.{OwnSnapshot}
+use Rattle.state_transfer.specs.declared.fetch.Ignored.TheVariants.{Unasked}
+use Rattle.snapshot_form.specs.Snapshots.{parts_at, restored}
+use Rattle.state_transfer.specs.Fetches.{finished, joined, is_wanted, joined_of, kept_unless, length_of, part_fault, pieces_of}
+use Rattle.state_transfer.specs.declared.choice.Plan.{Plan}
+use Rattle.state_transfer.specs.declared.fetch.Fetch.{Fetch}
+use Rattle.state_transfer.specs.declared.fetch.Spoiled.{Spoiled}
+use Rattle.transfer_form.specs.declared.transfer.ProvenBatch.{ProvenBatch}
+use Rattle.transfer_form.specs.declared.transfer.StatePart.{StatePart}
 
 -- ---- sources
 
@@ -71,6 +91,15 @@ slot_proposed m = option_map (λ (p : Proposed). p.head.statement.slot) (proposa
 -- the place of a vote
 abbrev pub place_voted : Message → Option ℕ
 place_voted m = option_map (λ (b : SignedBy Ballot). b.statement.slot.place) (vote_in m)
+
+-- the place of a vote, or of a decision that others show
+abbrev pub place_shown : Message → Option ℕ
+place_shown m = or_else (place_voted m) (option_map (λ (d : ProvenBatch). d.place) (decision_in m))
+
+-- the place of a part of a snapshot
+abbrev pub place_joined : Message → Option ℕ
+place_joined (changes.StatePart p) = Some p.place
+place_joined m = None
 
 abbrev promise_begun : SignedBy Sync → Promise
 promise_begun s = record { view = s.statement.view; regency = s.statement.regency }
@@ -92,18 +121,19 @@ pub record FromMessage {K : Type 0} (sources : List (List ℕ)) (key : Message �
   pub source : HasSource sources message
   pub key_is : key message ≡ Some k
 
--- so has what made a node write down an entry: a proposal for the slot, a wish or a beginning of the regency, or a vote for the place
+-- so has what made a node write down an entry: a proposal for the slot, a wish or a beginning of the regency, a vote for the place or a decision
+-- there, or a part of a snapshot of the place
 abbrev pub EntryFrom : List (List ℕ) → LogEntry → Type 0
 EntryFrom sources (Opened o) = ⊥
 EntryFrom sources (Wrote w) = FromMessage sources slot_proposed w.slot
 EntryFrom sources (Accepted a) = FromMessage sources slot_proposed a.slot
 EntryFrom sources (Promised p) = FromMessage sources regency_asked p
 EntryFrom sources (Synced s) = FromMessage sources regency_begun (record { view = s.view; regency = s.regency })
-EntryFrom sources (Decided d) = FromMessage sources place_voted d.slot.place
-EntryFrom sources (Installed i) = ⊥
-EntryFrom sources (Marked m) = ⊥
+EntryFrom sources (Decided d) = FromMessage sources place_shown d.slot.place
+EntryFrom sources (Installed i) = FromMessage sources place_joined i.place
+EntryFrom sources (Marked m) = FromMessage sources place_shown m.place
 
--- a promise is of a later regency than each before it in its view
+-- a promise is of a later regency than each before it in its view, and a mark of a later place than each before it
 abbrev pub IsLast : List LogEntry → LogEntry → Type 0
 IsLast before (Opened o) = Unit {0}
 IsLast before (Wrote w) = Unit {0}
@@ -112,7 +142,7 @@ IsLast before (Promised p) = greatest_regency p.view before < p.regency
 IsLast before (Synced s) = Unit {0}
 IsLast before (Decided d) = Unit {0}
 IsLast before (Installed i) = Unit {0}
-IsLast before (Marked m) = Unit {0}
+IsLast before (Marked m) = IsAbove before m
 
 abbrev pub Rising : List LogEntry → Type 0
 Rising entries = (before : List LogEntry) (entry : LogEntry) (after : List LogEntry) → entries ≡ before ++ entry ∷ after → IsLast before entry
@@ -126,12 +156,22 @@ pub record FromBook (sources : List (List ℕ)) (entries : List LogEntry) : Type
   pub behind : EachBehind (EntryFrom sources) entries
   pub rising : Rising entries
 
+-- parts of a plan's snapshot that came, of the plan's place
+abbrev pub PartsFrom : List (List ℕ) → Fetch → Type 0
+PartsFrom sources f = Each (λ (p : StatePart). HasSource sources (changes.StatePart p) × (p.place ≡ f.plan.place)) f.parts
+
 -- what a node has kept has a source, and so has its book
 pub record FromSources {S : Type 0} (sources : List (List ℕ)) (n : Node S) : Type 0 where
   pub arrivals : Each (λ (m : Message). HasSource sources m) n.arrivals
   pub stops : Each (λ (s : SignedBy Stop). HasSource sources (changes.Stop s)) n.stops
   pub syncs : Each (λ (s : SignedBy Sync). HasSource sources (changes.Sync s)) n.syncs
+  pub decisions : Each (λ (d : ProvenBatch). HasSource sources (changes.Decision d)) n.decisions
+  pub fetch : IfSome n.fetch (PartsFrom sources)
+  -- what waits was decided
+  pub waiting : IfSome n.waiting (λ (batch : Batch). FromMessage sources place_shown (next_place n))
   pub book : FromBook sources n.entries
+  -- a mark is of a place that is delivered
+  pub marks : Each (IsMarkUpTo n.replica.place) n.entries
 
 -- ---- books
 
@@ -196,13 +236,24 @@ entry-more sources more all (Wrote w) from = message-more sources more all slot_
 entry-more sources more all (Accepted a) from = message-more sources more all slot_proposed a.slot from
 entry-more sources more all (Promised p) from = message-more sources more all regency_asked p from
 entry-more sources more all (Synced s) from = message-more sources more all regency_begun (record { view = s.view; regency = s.regency }) from
-entry-more sources more all (Decided d) from = message-more sources more all place_voted d.slot.place from
-entry-more sources more all (Installed i) from = from
-entry-more sources more all (Marked m) from = from
+entry-more sources more all (Decided d) from = message-more sources more all place_shown d.slot.place from
+entry-more sources more all (Installed i) from = message-more sources more all place_joined i.place from
+entry-more sources more all (Marked m) from = message-more sources more all place_shown m.place from
 
 pub book-more : (sources more : List (List ℕ)) → ((m : Message) → HasSource sources m → HasSource more m) → (entries : List LogEntry) → FromBook sources entries → FromBook more entries
 book-more sources more all entries book =
     record { behind = behind_weaker (EntryFrom sources) (EntryFrom more) (entry-more sources more all) entries book.behind; rising = book.rising }
+
+parts-more : (sources more : List (List ℕ)) → ((m : Message) → HasSource sources m → HasSource more m) → (fetch : Option Fetch) → IfSome fetch (PartsFrom sources) → IfSome fetch (PartsFrom more)
+parts-more sources more all None from = tt
+parts-more sources more all (Some f) from =
+    each-weaken (λ (p : StatePart). HasSource sources (changes.StatePart p) × (p.place ≡ f.plan.place)) (λ (p : StatePart). HasSource more (changes.StatePart p) × (p.place ≡ f.plan.place))
+    (λ p has. (all (changes.StatePart p) has.0, has.1)) f.parts from
+
+waiting-more : (sources more : List (List ℕ)) → ((m : Message) → HasSource sources m → HasSource more m) → (place : ℕ) (waiting : Option Batch)
+    → IfSome waiting (λ (batch : Batch). FromMessage sources place_shown place) → IfSome waiting (λ (batch : Batch). FromMessage more place_shown place)
+waiting-more sources more all place None from = tt
+waiting-more sources more all place (Some batch) from = message-more sources more all place_shown place from
 
 pub from-more : {S : Type 0} (sources more : List (List ℕ)) → ((m : Message) → HasSource sources m → HasSource more m) → (n : Node S) → FromSources sources n → FromSources more n
 from-more sources more all n from = record {
@@ -211,7 +262,12 @@ from-more sources more all n from = record {
       (λ s has. all (changes.Stop s) has) n.stops from.stops;
   syncs = each-weaken (λ (s : SignedBy Sync). HasSource sources (changes.Sync s)) (λ (s : SignedBy Sync). HasSource more (changes.Sync s))
       (λ s has. all (changes.Sync s) has) n.syncs from.syncs;
+  decisions = each-weaken (λ (d : ProvenBatch). HasSource sources (changes.Decision d)) (λ (d : ProvenBatch). HasSource more (changes.Decision d))
+      (λ d has. all (changes.Decision d) has) n.decisions from.decisions;
+  fetch = parts-more sources more all n.fetch from.fetch;
+  waiting = waiting-more sources more all (next_place n) n.waiting from.waiting;
   book = book-more sources more all n.entries from.book;
+  marks = from.marks;
 }
 
 -- ---- what is due has a source
@@ -283,11 +339,27 @@ vote-from sources view kind slot digest arrivals each enough =
     let vote = one_of (λ (m : Message). HasSource sources m) (is_vote kind member.0 slot digest) arrivals each member.1 in
     record { message = vote.0; source = vote.1; key_is = vote_place kind member.0 slot digest vote.0 vote.2 }
 
-deciding-from : {S : Type 0} (sources : List (List ℕ)) (n : Node S) (d : Decision) → deciding n ≡ Some d → FromSources sources n → FromMessage sources place_voted d.slot.place
-deciding-from sources n d is from =
+voted_shown : (sources : List (List ℕ)) (place : ℕ) → FromMessage sources place_voted place → FromMessage sources place_shown place
+voted_shown sources place from = record {
+  message = from.message;
+  source = from.source;
+  key_is = ap (λ (o : Option ℕ). or_else o (option_map (λ (d : ProvenBatch). d.place) (decision_in from.message))) from.key_is;
+}
+
+deciding-from : {S : Type 0} (sources : List (List ℕ)) (n : Node S) (d : Decision) → deciding n ≡ Some d → FromSources sources n → FromMessage sources place_shown d.slot.place
+deciding-from {S = S} sources n d is from =
     let due = due_is n d is in
-    let vote = vote-from sources (view_of n) kinds.Accept (slot_in n due.regency) due.decides.named.digest n.arrivals from.arrivals due.decides.accepted in
-    subst (λ (x : Decision). FromMessage sources place_voted x.slot.place) (sym due.decides.decision_is) vote
+    ⊎_elim
+    (λ (one : FromShown n d).
+    record {
+      message = changes.Decision one.shown;
+      source = each_among (λ (x : ProvenBatch). HasSource sources (changes.Decision x)) n.decisions one.shown from.decisions one.there;
+      key_is = ap (λ (k : ℕ). Some k) (one.place_is ∙ sym due.place_is);
+    })
+    (λ (own : FromVotes n d).
+    let vote = vote-from sources (view_of n) kinds.Accept (slot_in n own.regency) own.decides.named.digest n.arrivals from.arrivals own.decides.accepted in
+    voted_shown sources d.slot.place (subst (λ (x : Decision). FromMessage sources place_voted x.slot.place) (sym own.decides.decision_is) vote))
+    due.how
 
 -- a wish for the next regency
 
@@ -337,31 +409,70 @@ record IsFrom {S : Type 0} (sources : List (List ℕ)) (n : Node S) : Type 0 whe
   from : FromSources sources n
   some : 0 < length n.entries
 
--- a node that keeps the same, and has the same book or one more entry
+still : (k : ℕ) → k ≤ k
+still k = omega arith
 
-is_from-as : {S : Type 0} (sources : List (List ℕ)) (n n' : Node S) → n'.arrivals ≡ n.arrivals → n'.stops ≡ n.stops → n'.syncs ≡ n.syncs → n'.entries ≡ n.entries → IsFrom sources n → IsFrom sources n'
-is_from-as sources n n' arrivals stops syncs entries is = record {
+-- what two nodes keep alike
+record Alike {S : Type 0} (n n' : Node S) : Type 0 where
+  arrivals : n'.arrivals ≡ n.arrivals
+  stops : n'.stops ≡ n.stops
+  syncs : n'.syncs ≡ n.syncs
+  decisions : n'.decisions ≡ n.decisions
+
+-- a node that keeps the same at the same place or a later one, and has the same book or one more entry
+
+is_from-as : {S : Type 0} (sources : List (List ℕ)) (n n' : Node S) → Alike n n' → n'.entries ≡ n.entries → n.replica.place ≤ n'.replica.place → IfSome n'.fetch (PartsFrom sources)
+    → IfSome n'.waiting (λ (batch : Batch). FromMessage sources place_shown (next_place n')) → IsFrom sources n → IsFrom sources n'
+is_from-as sources n n' alike entries least fetch waiting is = record {
   from = record {
-    arrivals = subst (λ (ms : List Message). Each (λ (m : Message). HasSource sources m) ms) (sym arrivals) is.from.arrivals;
-    stops = subst (λ (xs : List (SignedBy Stop)). Each (λ (s : SignedBy Stop). HasSource sources (changes.Stop s)) xs) (sym stops) is.from.stops;
-    syncs = subst (λ (xs : List (SignedBy Sync)). Each (λ (s : SignedBy Sync). HasSource sources (changes.Sync s)) xs) (sym syncs) is.from.syncs;
+    arrivals = subst (λ (ms : List Message). Each (λ (m : Message). HasSource sources m) ms) (sym alike.arrivals) is.from.arrivals;
+    stops = subst (λ (xs : List (SignedBy Stop)). Each (λ (s : SignedBy Stop). HasSource sources (changes.Stop s)) xs) (sym alike.stops) is.from.stops;
+    syncs = subst (λ (xs : List (SignedBy Sync)). Each (λ (s : SignedBy Sync). HasSource sources (changes.Sync s)) xs) (sym alike.syncs) is.from.syncs;
+    decisions = subst (λ (xs : List ProvenBatch). Each (λ (d : ProvenBatch). HasSource sources (changes.Decision d)) xs) (sym alike.decisions) is.from.decisions;
+    fetch = fetch;
+    waiting = waiting;
     book = subst (λ (es : List LogEntry). FromBook sources es) (sym entries) is.from.book;
+    marks = subst (λ (es : List LogEntry). Each (IsMarkUpTo n'.replica.place) es) (sym entries)
+        (each-weaken (IsMarkUpTo n.replica.place) (IsMarkUpTo n'.replica.place) (λ e up. up_to_more n.replica.place n'.replica.place e least up) n.entries is.from.marks);
   };
   some = subst (λ (es : List LogEntry). 0 < length es) (sym entries) is.some;
 }
 
-is_from-end : {S : Type 0} (sources : List (List ℕ)) (n n' : Node S) (e : LogEntry) → n'.arrivals ≡ n.arrivals → n'.stops ≡ n.stops → n'.syncs ≡ n.syncs → n'.entries ≡ n.entries ++ e ∷ []
-    → EntryFrom sources e → IsLast n.entries e → IsFrom sources n → IsFrom sources n'
-is_from-end {S = S} sources n n' e arrivals stops syncs entries from last is =
+-- the same node but for what has no source
+is_from-same : {S : Type 0} (sources : List (List ℕ)) (n n' : Node S) → Alike n n' → n'.entries ≡ n.entries → n'.replica ≡ n.replica → n'.fetch ≡ n.fetch → n'.waiting ≡ n.waiting → IsFrom sources n
+    → IsFrom sources n'
+is_from-same {S = S} sources n n' alike entries replica fetch waiting is =
+    is_from-as sources n n' alike entries (let same = ap (λ (r : Replica S). r.place) replica in omega (arith, same)) (subst (λ (o : Option Fetch). IfSome o (PartsFrom sources)) (sym fetch) is.from.fetch)
+    (subst (λ (r : Replica S). IfSome n'.waiting (λ (batch : Batch). FromMessage sources place_shown (r.place + 1))) (sym replica)
+    (subst (λ (o : Option Batch). IfSome o (λ (batch : Batch). FromMessage sources place_shown (next_place n))) (sym waiting) is.from.waiting)) is
+
+is_from-end : {S : Type 0} (sources : List (List ℕ)) (n n' : Node S) (e : LogEntry) → Alike n n' → n'.entries ≡ n.entries ++ e ∷ [] → n.replica.place ≤ n'.replica.place → IfSome n'.fetch (PartsFrom sources)
+    → IfSome n'.waiting (λ (batch : Batch). FromMessage sources place_shown (next_place n')) → EntryFrom sources e → IsLast n.entries e → IsMarkUpTo n.replica.place e → IsFrom sources n → IsFrom sources n'
+is_from-end {S = S} sources n n' e alike entries least fetch waiting from last up is =
     let x : Node S = record n { entries = n.entries ++ e ∷ [] } in
-    is_from-as sources x n' arrivals stops syncs entries
+    is_from-as sources x n' (record { arrivals = alike.arrivals; stops = alike.stops; syncs = alike.syncs; decisions = alike.decisions }) entries least fetch waiting
     (record {
-      from = record { arrivals = is.from.arrivals; stops = is.from.stops; syncs = is.from.syncs; book = from-end sources n.entries e is.some is.from.book from last };
+      from = record {
+        arrivals = is.from.arrivals;
+        stops = is.from.stops;
+        syncs = is.from.syncs;
+        decisions = is.from.decisions;
+        fetch = is.from.fetch;
+        waiting = is.from.waiting;
+        book = from-end sources n.entries e is.some is.from.book from last;
+        marks = each_end (IsMarkUpTo n.replica.place) n.entries e is.from.marks up;
+      };
       some = omega (arith, length-append n.entries (e ∷ []));
     })
 
+alike : {S : Type 0} (n : Node S) → Alike n n
+alike n = record { arrivals = refl; stops = refl; syncs = refl; decisions = refl }
+
 is_from-aside : {S : Type 0} (sources : List (List ℕ)) (n n' : Node S) → Aside n n' → IsFrom sources n → IsFrom sources n'
-is_from-aside {S = S} sources n n' aside is = subst (λ (x : Node S). IsFrom sources x) (sym aside.same) (is_from-as sources n _ refl refl refl refl is)
+is_from-aside {S = S} sources n n' aside is =
+    subst (λ (x : Node S). IsFrom sources x) (sym aside.same)
+    (is_from-same sources n (record n { held = aside.holds; proposed = aside.slots; stop_made = aside.stopped; sync_made = aside.led; impatient = aside.pressed; behind = aside.told })
+    (record { arrivals = refl; stops = refl; syncs = refl; decisions = refl }) refl refl refl refl is)
 
 -- a regency above the one in force is above all that are promised in its view
 above_force : {S : Type 0} (n : Node S) (view regency : ℕ) → view ≡ (view_of n).number → regency_of n < regency → greatest_regency view n.entries < regency
@@ -373,18 +484,19 @@ is_from-promised : {S : Type 0} (sources : List (List ℕ)) (n : Node S) (s : Si
 is_from-promised {S = S} sources n s came is =
     either_by (λ (xs : List LogEntry). IsFrom sources (record n { entries = n.entries ++ xs })) (nat_lt (regency_of n) s.statement.regency)
     (Promised (record { view = s.statement.view; regency = s.statement.regency }) ∷ []) []
-    (λ less. is_from-end sources n _ (Promised (record { view = s.statement.view; regency = s.statement.regency })) refl refl refl refl
+    (λ less. is_from-end sources n (record n { entries = n.entries ++ Promised (record { view = s.statement.view; regency = s.statement.regency }) ∷ [] })
+    (Promised (record { view = s.statement.view; regency = s.statement.regency })) (record { arrivals = refl; stops = refl; syncs = refl; decisions = refl }) refl (still n.replica.place) is.from.fetch is.from.waiting
     (record { message = (changes.Sync s); source = came.source; key_is = refl })
-    (above_force n s.statement.view s.statement.regency came.of_view (ltb-true (regency_of n) s.statement.regency less)) is)
-    (λ not_less. is_from-as sources n _ refl refl refl (append-nil n.entries) is)
+    (above_force n s.statement.view s.statement.regency came.of_view (ltb-true (regency_of n) s.statement.regency less)) tt is)
+    (λ not_less. is_from-same sources n (record n { entries = n.entries ++ [] }) (record { arrivals = refl; stops = refl; syncs = refl; decisions = refl }) (append-nil n.entries) refl refl refl is)
 
 is_from-adopts_by : {S : Type 0} (sources : List (List ℕ)) (n : Node S) (sync : Option (SignedBy Sync)) → IfSome sync (IsAdopted sources (view_of n).number) → IsFrom sources n → IsFrom sources (adopts_by n sync)
 unfolding adopts_by
 is_from-adopts_by sources n None came is = is
 is_from-adopts_by {S = S} sources n (Some s) came is =
     let x : Node S = record n { entries = n.entries ++ promised_for n s.statement } in
-    is_from-end sources x (adopts_by n (Some s)) (Synced (start_by_sync s.statement)) refl refl refl refl
-    (record { message = (changes.Sync s); source = came.source; key_is = refl }) tt (is_from-promised sources n s came is)
+    is_from-end sources x (adopts_by n (Some s)) (Synced (start_by_sync s.statement)) (record { arrivals = refl; stops = refl; syncs = refl; decisions = refl }) refl (still n.replica.place) is.from.fetch is.from.waiting
+    (record { message = (changes.Sync s); source = came.source; key_is = refl }) tt tt (is_from-promised sources n s came is)
 
 is_from-adopts : {S : Type 0} (sources : List (List ℕ)) (n : Node S) → IsFrom sources n → IsFrom sources (adopts n)
 unfolding adopts
@@ -393,8 +505,8 @@ is_from-adopts sources n is = is_from-adopts_by sources n (adoption n) (adoption
 is_from-promise_next : {S : Type 0} (sources : List (List ℕ)) (n : Node S) → promising n ≡ true → IsFrom sources n → IsFrom sources (promise_next n)
 unfolding promise_next promising
 is_from-promise_next sources n due is =
-    is_from-end sources n (promise_next n) (Promised (next_promise n)) refl refl refl refl (promising-from sources (view_of n) (synchronizer_of n) is.from.stops due)
-    (above_force n (view_of n).number (regency_of n + 1) refl (omega arith)) is
+    is_from-end sources n (promise_next n) (Promised (next_promise n)) (record { arrivals = refl; stops = refl; syncs = refl; decisions = refl }) refl (still n.replica.place) is.from.fetch is.from.waiting (promising-from sources (view_of n) (synchronizer_of n) is.from.stops due)
+    (above_force n (view_of n).number (regency_of n + 1) refl (omega arith)) tt is
 
 is_from-promises : {S : Type 0} (sources : List (List ℕ)) (n : Node S) → IsFrom sources n → IsFrom sources (promises n)
 unfolding promises
@@ -405,18 +517,40 @@ is_from-write_batch : {S : Type 0} (sources : List (List ℕ)) (n : Node S) (p :
     → IsFrom sources (write_batch n p)
 unfolding write_batch
 is_from-write_batch sources n None from is = is
-is_from-write_batch sources n (Some p) from is = is_from-end sources n (write_batch n (Some p)) (Wrote (record { slot = open_slot n; digest = p.head.statement.digest })) refl refl refl refl from tt is
+is_from-write_batch sources n (Some p) from is =
+    is_from-end sources n (write_batch n (Some p)) (Wrote (record { slot = open_slot n; digest = p.head.statement.digest })) (record { arrivals = refl; stops = refl; syncs = refl; decisions = refl }) refl (still n.replica.place) is.from.fetch is.from.waiting from tt tt is
 
 is_from-accept_batch : {S : Type 0} (sources : List (List ℕ)) (n : Node S) (p : Option Proposed) → IfSome p (λ (x : Proposed). FromMessage sources slot_proposed (open_slot n)) → IsFrom sources n
     → IsFrom sources (accept_batch n p)
 unfolding accept_batch
 is_from-accept_batch sources n None from is = is
-is_from-accept_batch sources n (Some p) from is = is_from-end sources n (accept_batch n (Some p)) (Accepted _) refl refl refl refl from tt is
+is_from-accept_batch sources n (Some p) from is = is_from-end sources n (accept_batch n (Some p)) (Accepted _) (record { arrivals = refl; stops = refl; syncs = refl; decisions = refl }) refl (still n.replica.place) is.from.fetch is.from.waiting from tt tt is
 
 is_from-decide_batch : {S : Type 0} (sources : List (List ℕ)) (n : Node S) (d : Option Decision) → deciding n ≡ d → IsFrom sources n → IsFrom sources (decide_batch n d)
 unfolding decide_batch
 is_from-decide_batch sources n None due is = is
-is_from-decide_batch sources n (Some d) due is = is_from-end sources n (decide_batch n (Some d)) (Decided d) refl refl refl refl (deciding-from sources n d due is.from) tt is
+is_from-decide_batch sources n (Some d) due is =
+    let from = deciding-from sources n d due is.from in
+    is_from-end sources n (decide_batch n (Some d)) (Decided d) (record { arrivals = refl; stops = refl; syncs = refl; decisions = refl }) refl (still n.replica.place) is.from.fetch
+    (subst (λ (k : ℕ). FromMessage sources place_shown k) (due_is n d due).place_is from) from tt tt is
+
+waited-from : (sources : List (List ℕ)) (place : ℕ) (waiting : Option Batch) → is_some waiting ≡ true → IfSome waiting (λ (batch : Batch). FromMessage sources place_shown place)
+    → FromMessage sources place_shown place
+waited-from sources place None waits from = absurd (cc)
+waited-from sources place (Some batch) waits from = from
+
+-- a mark has the source of the decision: it is of the place just delivered
+is_from-mark : {S : Type 0} (sources : List (List ℕ)) (m : Meaning S) (n : Node S) → is_some n.waiting ≡ true → IsFrom sources n → IsFrom sources (delivers m n)
+    → IsFrom sources (mark_place m (delivers m n))
+unfolding mark_place
+is_from-mark {S = S} sources m n waits is delivered =
+    let d : Node S = delivers m n in
+    let next : d.replica.place ≡ n.replica.place + 1 = place-delivers m n waits in
+    let above : IsAbove d.entries (mark_of m d) =
+    subst (λ (es : List LogEntry). IsAbove es (mark_of m d)) (sym (delivers_same m n)) (above_all n.replica.place n.entries (mark_of m d) is.from.marks next) in
+    let from : FromMessage sources place_shown (next_place n) = waited-from sources (next_place n) n.waiting waits is.from.waiting in
+    is_from-end sources d (mark_place m d) (Marked (mark_of m d)) (record { arrivals = refl; stops = refl; syncs = refl; decisions = refl }) refl (still d.replica.place) delivered.from.fetch delivered.from.waiting
+    (subst (λ (k : ℕ). FromMessage sources place_shown k) (sym next) from) above (still d.replica.place) delivered
 
 is_from-writes : {S : Type 0} (sources : List (List ℕ)) (n : Node S) → IsFrom sources n → IsFrom sources (writes n)
 unfolding writes
@@ -430,50 +564,120 @@ is_from-decides : {S : Type 0} (sources : List (List ℕ)) (n : Node S) → IsFr
 unfolding decides
 is_from-decides sources n is = is_from-decide_batch sources n (deciding n) refl is
 
+wanted_is : (plan : Plan) (p : StatePart) → is_wanted plan p ≡ true → p.place ≡ plan.place
+unfolding is_wanted
+wanted_is plan p is =
+    let three = and_true ((p.place == plan.place) && (p.total == pieces_of plan.size) && nat_lt p.index p.total) (length p.bytes == length_of plan.size p.index) is in
+    let two = and_true ((p.place == plan.place) && (p.total == pieces_of plan.size)) (nat_lt p.index p.total) three.0 in
+    eqb-true p.place plan.place (and_true (p.place == plan.place) (p.total == pieces_of plan.size) two.0).0
+
+wanted_place : (f : Fetch) (p : StatePart) → part_fault f p ≡ None → p.place ≡ f.plan.place
+unfolding part_fault
+wanted_place f p none = wanted_is f.plan p (not_false (is_wanted f.plan p) (no_reason (not (is_wanted f.plan p)) Unasked _ none).0)
+
+part_why_none : {S : Type 0} (n : Node S) (p : StatePart) → why_part n p ≡ None → part_why n.fetch p ≡ None
+unfolding why_part
+part_why_none n p none = none
+
+-- a part that is kept is of the plan's place
+part-from : {S : Type 0} (sources : List (List ℕ)) (n : Node S) (p : StatePart) (fetch : Option Fetch) → part_why fetch p ≡ None → HasSource sources (changes.StatePart p) → IfSome fetch (PartsFrom sources)
+    → IfSome (option_map (λ (f : Fetch). kept_unless None f p) fetch) (PartsFrom sources)
+part-from sources n p None fine came from = tt
+part-from sources n p (Some f) fine came from =
+    each_end (λ (x : StatePart). HasSource sources (changes.StatePart x) × (x.place ≡ f.plan.place)) f.parts p from (came, wanted_place f p (no_why (part_fault f p) fine))
+  where
+    no_why : (o : Option Ignored) → option_map why_ignored o ≡ None → o ≡ None
+    no_why None is = refl
+    no_why (Some why) is = absurd (cc)
+
 -- what is kept has come
-is_from-kept : {S : Type 0} (sources : List (List ℕ)) (n : Node S) (message : Message) → HasSource sources message → IsFrom sources n → IsFrom sources (kept n message)
+is_from-kept : {S : Type 0} (sources : List (List ℕ)) (n : Node S) (message : Message) → why_dropped n message ≡ None → HasSource sources message → IsFrom sources n → IsFrom sources (kept n message)
 unfolding kept
-is_from-kept {S = S} sources n (Ask q) came is =
-    either (λ (x : Node S). IsFrom sources x) (is_next n.replica.table q.statement) (record n { pool = offered n.pool q }) n (is_from-as sources n _ refl refl refl refl is) is
-is_from-kept sources n (Propose p) came is = record {
+is_from-kept {S = S} sources n (Ask q) fine came is =
+    either (λ (x : Node S). IsFrom sources x) (is_next n.replica.table q.statement) (record n { pool = offered n.pool q }) n
+    (is_from-same sources n (record n { pool = offered n.pool q }) (record { arrivals = refl; stops = refl; syncs = refl; decisions = refl }) refl refl refl refl is) is
+is_from-kept sources n (Propose p) fine came is = record {
   from = record {
     arrivals = each_end (λ (m : Message). HasSource sources m) n.arrivals (Propose p) is.from.arrivals came;
     stops = is.from.stops;
     syncs = is.from.syncs;
+    decisions = is.from.decisions;
+    fetch = is.from.fetch;
+    waiting = is.from.waiting;
     book = is.from.book;
+    marks = is.from.marks;
   };
   some = is.some;
 }
-is_from-kept sources n (Vote b) came is = record {
+is_from-kept sources n (Vote b) fine came is = record {
   from = record {
     arrivals = each_end (λ (m : Message). HasSource sources m) n.arrivals (Vote b) is.from.arrivals came;
     stops = is.from.stops;
     syncs = is.from.syncs;
+    decisions = is.from.decisions;
+    fetch = is.from.fetch;
+    waiting = is.from.waiting;
     book = is.from.book;
+    marks = is.from.marks;
   };
   some = is.some;
 }
-is_from-kept sources n (changes.Stop s) came is = record {
+is_from-kept sources n (changes.Stop s) fine came is = record {
   from = record {
     arrivals = is.from.arrivals;
     stops = each_end (λ (x : SignedBy Stop). HasSource sources (changes.Stop x)) n.stops s is.from.stops came;
     syncs = is.from.syncs;
+    decisions = is.from.decisions;
+    fetch = is.from.fetch;
+    waiting = is.from.waiting;
     book = is.from.book;
+    marks = is.from.marks;
   };
   some = is.some;
 }
-is_from-kept sources n (changes.StopData r) came is = is_from-as sources n _ refl refl refl refl is
-is_from-kept sources n (changes.Sync s) came is = record {
+is_from-kept sources n (changes.StopData r) fine came is = is_from-same sources n (record n { reports = n.reports ++ r ∷ [] }) (record { arrivals = refl; stops = refl; syncs = refl; decisions = refl }) refl refl refl refl is
+is_from-kept sources n (changes.Sync s) fine came is = record {
   from = record {
     arrivals = is.from.arrivals;
     stops = is.from.stops;
     syncs = each_end (λ (x : SignedBy Sync). HasSource sources (changes.Sync x)) n.syncs s is.from.syncs came;
+    decisions = is.from.decisions;
+    fetch = is.from.fetch;
+    waiting = is.from.waiting;
     book = is.from.book;
+    marks = is.from.marks;
   };
   some = is.some;
 }
-is_from-kept sources n (changes.Mark k) came is = is_from-as sources n _ refl refl refl refl is
-is_from-kept sources n _ came is = is
+is_from-kept sources n (changes.Decision d) fine came is = record {
+  from = record {
+    arrivals = is.from.arrivals;
+    stops = is.from.stops;
+    syncs = is.from.syncs;
+    decisions = each_end (λ (x : ProvenBatch). HasSource sources (changes.Decision x)) n.decisions d is.from.decisions came;
+    fetch = is.from.fetch;
+    waiting = is.from.waiting;
+    book = is.from.book;
+    marks = is.from.marks;
+  };
+  some = is.some;
+}
+is_from-kept sources n (changes.StatePart p) fine came is = record {
+  from = record {
+    arrivals = is.from.arrivals;
+    stops = is.from.stops;
+    syncs = is.from.syncs;
+    decisions = is.from.decisions;
+    fetch = part-from sources n p n.fetch (part_why_none n p fine) came is.from.fetch;
+    waiting = is.from.waiting;
+    book = is.from.book;
+    marks = is.from.marks;
+  };
+  some = is.some;
+}
+is_from-kept sources n (Reply a) fine came is = is
+is_from-kept sources n (changes.StateAsk a) fine came is = is
+is_from-kept sources n _ fine came is = is_from-same sources n _ (record { arrivals = refl; stops = refl; syncs = refl; decisions = refl }) refl refl refl refl is
 
 is_from-deliver_batch : {S : Type 0} (sources : List (List ℕ)) (m : Meaning S) (n : Node S) (batch : Option Batch) → IsFrom sources n → IsFrom sources (deliver_batch m n batch)
 unfolding deliver_batch
@@ -481,11 +685,92 @@ is_from-deliver_batch sources m n None is = is
 is_from-deliver_batch {S = S} sources m n (Some batch) is =
     let r : Replica S = delivered m n.replica batch in
     let x : Node S = record n { replica = r; waiting = None; pool = settled r.table n.pool; impatient = false } in
-    is_from-aside sources x (replying x (lines_to_answer m n batch)) (aside-replying x (lines_to_answer m n batch)) (is_from-as sources n x refl refl refl refl is)
+    is_from-aside sources x (replying x (lines_to_answer m n batch)) (aside-replying x (lines_to_answer m n batch))
+    (is_from-as sources n x (record { arrivals = refl; stops = refl; syncs = refl; decisions = refl }) refl (let next = place_delivered m n.replica batch in omega (arith, next)) is.from.fetch tt is)
 
 is_from-delivers : {S : Type 0} (sources : List (List ℕ)) (m : Meaning S) (n : Node S) → IsFrom sources n → IsFrom sources (delivers m n)
 unfolding delivers
 is_from-delivers sources m n is = is_from-deliver_batch sources m n n.waiting is
+
+-- ---- a replica is taken over
+
+is_from-asks_state : {S : Type 0} (sources : List (List ℕ)) (n : Node S) → IsFrom sources n → IsFrom sources (asks_state n)
+unfolding asks_state
+is_from-asks_state sources n is = is_from-as sources n (asks_state n) (record { arrivals = refl; stops = refl; syncs = refl; decisions = refl }) refl (still n.replica.place) tt is.from.waiting is
+
+is_from-times : {S : Type 0} (sources : List (List ℕ)) (n : Node S) → IsFrom sources n → IsFrom sources (times n)
+unfolding times
+is_from-times {S = S} sources n is =
+    either (λ (x : Node S). IsFrom sources x) (lags n) (asks_state n) _ (is_from-asks_state sources n is)
+    (either (λ (x : Node S). IsFrom sources x) (timing n) (presses n) n (is_from-aside sources n (presses n) (aside-presses n) is) is)
+
+is_from-follow_plan : {S : Type 0} (sources : List (List ℕ)) (n : Node S) (plan : Option Plan) → IsFrom sources n → IsFrom sources (follow_plan n plan)
+unfolding follow_plan
+is_from-follow_plan sources n None is = is
+is_from-follow_plan sources n (Some p) is = is_from-as sources n (follow_plan n (Some p)) (record { arrivals = refl; stops = refl; syncs = refl; decisions = refl }) refl (still n.replica.place) tt is.from.waiting is
+
+is_from-plans : {S : Type 0} (sources : List (List ℕ)) (n : Node S) → IsFrom sources n → IsFrom sources (plans n)
+unfolding plans
+is_from-plans sources n is = is_from-follow_plan sources n (planning n) is
+
+is_from-spoil : {S : Type 0} (sources : List (List ℕ)) (n : Node S) (f : Fetch) → IsFrom sources n → IsFrom sources (spoil n f)
+unfolding spoil
+is_from-spoil sources n f is = is_from-as sources n (spoil n f) (record { arrivals = refl; stops = refl; syncs = refl; decisions = refl }) refl (still n.replica.place) tt is.from.waiting is
+
+-- no bytes are no replica's
+none_read : {S : Type 0} (m : Meaning S) → restored m [] ≡ None
+unfolding parts_at whole ranged number_at
+none_read m = refl
+
+joined_none : (n : ℕ) → joined [] n ≡ []
+joined_none zero = refl
+joined_none (suc n) = ap (λ (bytes : List ℕ). bytes ++ []) (joined_none n)
+
+-- so a plan of which a replica comes has a part
+joined-from : {S : Type 0} (sources : List (List ℕ)) (m : Meaning S) (plan : Plan) (parts : List StatePart) (count : ℕ) (r : Replica S) → restored m (joined parts count) ≡ Some r
+    → Each (λ (p : StatePart). HasSource sources (changes.StatePart p) × (p.place ≡ plan.place)) parts → FromMessage sources place_joined plan.place
+joined-from {S = S} sources m plan [] count r read from =
+    absurd (none_some (sym (none_read m) ∙ (sym (ap (λ (bytes : List ℕ). restored m bytes) (joined_none count)) ∙ read)))
+  where
+    none_some : ◌≡◌ {A = Option (Replica S)} None (Some r) → ⊥
+    none_some same = cc
+joined-from sources m plan (p ∷ ps) count r read from = record { message = changes.StatePart p; source = from.0.0; key_is = ap (λ (k : ℕ). Some k) from.0.1 }
+
+plan-from : {S : Type 0} (sources : List (List ℕ)) (m : Meaning S) (f : Fetch) (r : Replica S) → restored m (joined_of f) ≡ Some r → PartsFrom sources f → FromMessage sources place_joined f.plan.place
+unfolding joined_of
+plan-from sources m f r read from = joined-from sources m f.plan f.parts (pieces_of f.plan.size) r read from
+
+stands-from : (sources : List (List ℕ)) (fetch : Option Fetch) (f : Fetch) → fetch ≡ Some f → IfSome fetch (PartsFrom sources) → PartsFrom sources f
+stands-from sources None f at from = absurd (cc)
+stands-from sources (Some x) f at from = subst (λ (y : Fetch). PartsFrom sources y) (some_equal x f at) from
+
+none-waits : (sources : List (List ℕ)) (place : ℕ) (waiting : Option Batch) → waiting ≡ None → IfSome waiting (λ (batch : Batch). FromMessage sources place_shown place)
+none-waits sources place None free = tt
+none-waits sources place (Some batch) free = absurd (cc)
+
+is_from-install_replica : {S : Type 0} (sources : List (List ℕ)) (m : Meaning S) (n : Node S) (f : Fetch) (r : Replica S) → IsReady n f → IsTakenFrom m f r → IsFrom sources n
+    → IsFrom sources (install_replica n f r)
+unfolding install_replica
+is_from-install_replica sources m n f r due taken is =
+    let at : r.place ≡ f.plan.place = taken.place_is in
+    let later : n.replica.place < f.plan.place = due.later in
+    is_from-end sources n (install_replica n f r) (installed_by f.plan) (record { arrivals = refl; stops = refl; syncs = refl; decisions = refl }) refl (omega (arith, at, later)) tt (none-waits sources (r.place + 1) n.waiting due.free)
+    (plan-from sources m f r taken.read (stands-from sources n.fetch f due.stands is.from.fetch)) tt tt is
+
+is_from-install_by : {S : Type 0} (sources : List (List ℕ)) (m : Meaning S) (n : Node S) (f : Fetch) (made : Result (Replica S) Spoiled) → IsReady n f → finished m f ≡ made → IsFrom sources n
+    → IsFrom sources (install_by n f made)
+is_from-install_by {S = S} sources m n f (Ok r) due at is =
+    either (λ (x : Node S). IsFrom sources x) (is_of_group n r) (install_replica n f r) (spoil n f) (is_from-install_replica sources m n f r due (finished_from m f r at) is) (is_from-spoil sources n f is)
+is_from-install_by sources m n f (Err why) due at is = is_from-spoil sources n f is
+
+is_from-install_fetch : {S : Type 0} (sources : List (List ℕ)) (m : Meaning S) (n : Node S) (due : Option Fetch) → installing n ≡ due → IsFrom sources n → IsFrom sources (install_fetch m n due)
+unfolding install_fetch
+is_from-install_fetch sources m n None at is = is
+is_from-install_fetch sources m n (Some f) at is = is_from-install_by sources m n f (finished m f) (installing_is n f at) refl is
+
+is_from-installs : {S : Type 0} (sources : List (List ℕ)) (m : Meaning S) (n : Node S) → IsFrom sources n → IsFrom sources (installs m n)
+unfolding installs
+is_from-installs sources m n is = is_from-install_fetch sources m n (installing n) refl is
 
 -- ---- a step
 
@@ -499,17 +784,21 @@ from_rules sources = record {
   by_writes = λ n is. is_from-writes sources n is;
   by_accepts = λ n is. is_from-accepts sources n is;
   by_decides = λ n is. is_from-decides sources n is;
-  by_times = λ n is. is_from-aside sources n (times n) (aside-times n) is;
-  by_answers = λ n message is. is_from-aside sources n (answers_again n message) (aside-answers_again n message) is;
+  by_times = λ n is. is_from-times sources n is;
+  by_answers = λ n asked is. is_from-aside sources n (answers_again n asked) (aside-answers_again n asked) is;
+  by_states = λ n a is. is_from-aside sources n (answers_state n a) (aside-answers_state n a) is;
+  by_plans = λ n is. is_from-plans sources n is;
 }
 
 from_steps : {S : Type 0} (sources : List (List ℕ)) (m : Meaning S) → KeptInSteps m (λ n. IsFrom sources n) (λ message. HasSource sources message)
 from_steps sources m = record {
   by_rules = from_rules sources;
   by_noted = λ n message is. is_from-aside sources n (noted n message) (aside-noted n message) is;
-  by_kept = λ n message fine came is. is_from-kept sources n message came is;
+  by_kept = λ n message fine came is. is_from-kept sources n message fine came is;
+  by_installs = λ n is. is_from-installs sources m n is;
   by_delivers = λ n is. is_from-delivers sources m n is;
-  by_firm = λ x count good. is_from-as sources x _ refl refl refl refl good;
+  by_marks = λ n waits is delivered. is_from-mark sources m n waits is delivered;
+  by_firm = λ x count good. is_from-same sources x (record x { firm = count }) (record { arrivals = refl; stops = refl; syncs = refl; decisions = refl }) refl refl refl refl good;
 }
 
 -- where what comes has a source, each event leaves all that a node keeps and writes down with one
@@ -523,21 +812,28 @@ from-step {S = S} sources m n event came some from =
 
 -- what leaves is of no matter
 pub from-released : {S : Type 0} (sources : List (List ℕ)) (n : Node S) → FromSources sources n → FromSources sources (released n)
-from-released sources n from = record { arrivals = from.arrivals; stops = from.stops; syncs = from.syncs; book = from.book }
+from-released sources n from = record { arrivals = from.arrivals; stops = from.stops; syncs = from.syncs; decisions = from.decisions; fetch = from.fetch; waiting = from.waiting; book = from.book; marks = from.marks }
 
 pub from-opened : {S : Type 0} (sources : List (List ℕ)) (m : Meaning S) (secret : List ℕ) (id : ℕ) (view : View) (period : ℕ) → FromSources sources (opened (outset m secret id view period))
 from-opened sources m secret id view period =
-    record { arrivals = tt; stops = tt; syncs = tt; book = from-opening sources (Opened (record { member = id; period = period; view = view })) tt }
+    record { arrivals = tt; stops = tt; syncs = tt; decisions = tt; fetch = tt; waiting = tt; book = from-opening sources (Opened (record { member = id; period = period; view = view })) tt; marks = (tt, tt) }
 
--- a node that goes on after a crash has kept nothing but its book
-pub from-reopened : {S : Type 0} (sources : List (List ℕ)) (m : Meaning S) (secret : List ℕ) (id : ℕ) (view : View) (period : ℕ) (entries : List LogEntry) → FromBook sources entries
-    → FromSources sources (reopened m (outset m secret id view period) entries)
-unfolding reopened
-from-reopened sources m secret id view period [] book =
-    record { arrivals = tt; stops = tt; syncs = tt; book = from-opening sources (Opened (record { member = id; period = period; view = view })) tt }
-from-reopened {S = S} sources m secret id view period (e ∷ es) book =
-    let n : Node S = record (stopped (outset m secret id view period)) { entries = e ∷ es; replica = state m view (decided_of 0 (e ∷ es)); restored = length (e ∷ es); firm = length (e ∷ es) } in
-    subst (λ (x : Node S). FromSources sources x) (sym (reopened_is m (outset m secret id view period) e es)) (record { arrivals = tt; stops = tt; syncs = tt; book = book })
+-- a node that goes on after a crash over a checkpoint has kept nothing but the cut of what was written
+pub from-resumed : {S : Type 0} (sources : List (List ℕ)) (m : Meaning S) (secret : List ℕ) (id : ℕ) (stated : List Statement) (view : View) (period place : ℕ) (batches : List Batch)
+    (checkpoint : Option OwnSnapshot) (entries : List LogEntry) → IsSoundBook secret stated view entries → last_made entries ≤ length batches → FromBook sources (cut_at place entries)
+    → FromSources sources (resumed_node m secret id view period place batches checkpoint entries)
+from-resumed {S = S} sources m secret id stated view period place batches checkpoint entries sound reached book =
+    let at : (state m view (take (last_made entries) batches)).place ≡ last_made entries = state_place m view (take (last_made entries) batches) ∙ length-take-le (last_made entries) batches reached in
+    record {
+      arrivals = tt;
+      stops = tt;
+      syncs = tt;
+      decisions = tt;
+      fetch = tt;
+      waiting = tt;
+      book = book;
+      marks = subst (λ (k : ℕ). Each (IsMarkUpTo k) (cut_at place entries)) (sym at) (cut_each (IsMarkUpTo (last_made entries)) place entries (marks_reached secret stated view entries sound));
+    }
 
 -- ---- different keys have different sources
 
@@ -607,17 +903,6 @@ Differ {K = K} kind entries =
     (before : List LogEntry) (entry : LogEntry) (after : List LogEntry) → entries ≡ before ++ entry ∷ after
     → (other : LogEntry) → Among other before → (k : K) → kind other ≡ Some k → kind entry ≡ Some k → ⊥
 
--- where a value stands
-record Stands (e : LogEntry) (es : List LogEntry) : Type 0 where
-  before : List LogEntry
-  after : List LogEntry
-  split : es ≡ before ++ e ∷ after
-
-stands : (e : LogEntry) (es : List LogEntry) → Among e es → Stands e es
-stands e [] there = absurd there
-stands e (x ∷ xs) (inl is) = record { before = []; after = xs; split = ap (λ (y : LogEntry). y ∷ xs) (sym is) }
-stands e (x ∷ xs) (inr later) = let s = stands e xs later in record { before = x ∷ s.before; after = s.after; split = ap (λ (ys : List LogEntry). x ∷ ys) s.split }
-
 differ_behind : {K : Type 0} (kind : LogEntry → Option K) (e : LogEntry) (es : List LogEntry) → Differ kind (e ∷ es) → Differ kind es
 differ_behind kind e es differ before entry after split other there = differ (e ∷ before) entry after (ap (λ (xs : List LogEntry). e ∷ xs) split) other (inr there)
 
@@ -682,19 +967,20 @@ regency_synced (Decided d) = None
 regency_synced (Installed i) = None
 regency_synced (Marked m) = None
 
-abbrev place_decided : LogEntry → Option ℕ
-place_decided (Opened o) = None
-place_decided (Wrote w) = None
-place_decided (Accepted a) = None
-place_decided (Promised p) = None
-place_decided (Synced s) = None
-place_decided (Decided d) = Some d.slot.place
-place_decided (Installed i) = None
-place_decided (Marked m) = None
+abbrev place_installed : LogEntry → Option ℕ
+place_installed (Opened o) = None
+place_installed (Wrote w) = None
+place_installed (Accepted a) = None
+place_installed (Promised p) = None
+place_installed (Synced s) = None
+place_installed (Decided d) = None
+place_installed (Installed i) = Some i.place
+place_installed (Marked m) = None
 
 -- each entry with a source is of one of them
 all_kinds : (sources : List (List ℕ)) (es : List LogEntry) → Each (EntryFrom sources) es
     → length es ≤ length (filter_map slot_written es) + length (filter_map slot_accepted es) + length (filter_map promise_in es) + length (filter_map regency_synced es) + length (filter_map place_decided es)
+    + length (filter_map place_marked es) + length (filter_map place_installed es)
 all_kinds sources [] each = omega arith
 all_kinds sources (Opened o ∷ es) each = absurd each.0
 all_kinds sources (Wrote w ∷ es) each = let rest = all_kinds sources es each.1 in omega (arith, rest)
@@ -702,8 +988,8 @@ all_kinds sources (Accepted a ∷ es) each = let rest = all_kinds sources es eac
 all_kinds sources (Promised p ∷ es) each = let rest = all_kinds sources es each.1 in omega (arith, rest)
 all_kinds sources (Synced s ∷ es) each = let rest = all_kinds sources es each.1 in omega (arith, rest)
 all_kinds sources (Decided d ∷ es) each = let rest = all_kinds sources es each.1 in omega (arith, rest)
-all_kinds sources (Installed i ∷ es) each = absurd each.0
-all_kinds sources (Marked m ∷ es) each = absurd each.0
+all_kinds sources (Installed i ∷ es) each = let rest = all_kinds sources es each.1 in omega (arith, rest)
+all_kinds sources (Marked m ∷ es) each = let rest = all_kinds sources es each.1 in omega (arith, rest)
 
 -- and has a source of its key
 
@@ -723,9 +1009,17 @@ synced_gives : (sources : List (List ℕ)) (e : LogEntry) → EntryFrom sources 
 synced_gives sources (Synced s) from = from
 synced_gives sources e from = tt
 
-decided_gives : (sources : List (List ℕ)) (e : LogEntry) → EntryFrom sources e → IfSome (place_decided e) (λ k. FromMessage sources place_voted k)
+decided_gives : (sources : List (List ℕ)) (e : LogEntry) → EntryFrom sources e → IfSome (place_decided e) (λ k. FromMessage sources place_shown k)
 decided_gives sources (Decided d) from = from
 decided_gives sources e from = tt
+
+marked_gives : (sources : List (List ℕ)) (e : LogEntry) → EntryFrom sources e → IfSome (place_marked e) (λ k. FromMessage sources place_shown k)
+marked_gives sources (Marked m) from = from
+marked_gives sources e from = tt
+
+installed_gives : (sources : List (List ℕ)) (e : LogEntry) → EntryFrom sources e → IfSome (place_installed e) (λ k. FromMessage sources place_joined k)
+installed_gives sources (Installed i) from = from
+installed_gives sources e from = tt
 
 -- a slot is written in once, and accepted in once
 
@@ -767,24 +1061,38 @@ promised_differs before entry other k last there is same = cc
 
 -- places are decided in turn
 
-bare : Meaning ℕ
-bare = record { first = 0; next = λ s op. s; reply = λ s op. []; snapshot = λ s. []; restore = λ bytes. None }
-
 decided_differs : (secret : List ℕ) (stated : List Statement) (view : View) (before : List LogEntry) (entry other : LogEntry) (after : List LogEntry) (k : ℕ)
     → IsSoundBook secret stated view (before ++ entry ∷ after) → Among other before → place_decided other ≡ Some k → place_decided entry ≡ Some k → ⊥
 decided_differs secret stated view before (Decided d) (Decided o) after k book there is same =
-    let turn = in_turn bare secret stated view before d after book in
-    let count = count_is bare secret stated view before (front_of secret stated view before (Decided d ∷ after) book) in
+    let turn = in_turn secret stated view before d after book in
     let most = made_most before o.slot.place (record { entry = Decided o; there = there; made = refl }) in
     let equal = some_equal o.slot.place d.slot.place (is ∙ sym same) in
-    omega (arith, turn, count, most, equal)
+    omega (arith, turn, most, equal)
 decided_differs secret stated view before (Decided d) other after k book there is same = cc
 decided_differs secret stated view before entry other after k book there is same = cc
+
+-- marks rise, and so do the places that are installed
+
+marked_differs : (before : List LogEntry) (entry other : LogEntry) (k : ℕ) → IsLast before entry → Among other before → place_marked other ≡ Some k → place_marked entry ≡ Some k → ⊥
+marked_differs before (Marked m) (Marked o) k last there is same =
+    let equal = some_equal o.place m.place (is ∙ sym same) in
+    let less : o.place < m.place = last.1 o there in
+    omega (arith, equal, less)
+marked_differs before (Marked m) other k last there is same = cc
+marked_differs before entry other k last there is same = cc
+
+installed_differs : (before : List LogEntry) (entry other : LogEntry) (k : ℕ) → Admits 0 0 before entry → Among other before → place_installed other ≡ Some k → place_installed entry ≡ Some k → ⊥
+installed_differs before (Installed i) (Installed o) k may there is same =
+    let equal = some_equal o.place i.place (is ∙ sym same) in
+    let less : o.place < i.place = may.above o.place (record { entry = Installed o; there = there; made = refl }) in
+    omega (arith, equal, less)
+installed_differs before (Installed i) other k may there is same = cc
+installed_differs before entry other k may there is same = cc
 
 -- ---- a book has few entries
 
 few_behind : (secret : List ℕ) (stated : List Statement) (view : View) (sources : List (List ℕ)) (e : LogEntry) (es : List LogEntry) → IsSoundBook secret stated view (e ∷ es) → FromBook sources (e ∷ es)
-    → length es ≤ 5 * length sources
+    → length es ≤ 7 * length sources
 few_behind secret stated view sources e es book from =
     let all = all_kinds sources es from.behind in
     let wrote = few_kind sources slot_proposed slot_written e es
@@ -795,12 +1103,16 @@ few_behind secret stated view sources e es book from =
     (λ before entry after split other there k is same. promised_differs before entry other k (from.rising before entry after split) there is same) (promised_gives sources) from.behind in
     let synced = few_kind sources regency_begun regency_synced e es
     (λ before entry after split other there k is same. synced_differs before entry other k (book.tidy before entry after split) there is same) (synced_gives sources) from.behind in
-    let decided = few_kind sources place_voted place_decided e es
+    let decided = few_kind sources place_shown place_decided e es
     (λ before entry after split other there k is same.
     decided_differs secret stated view before entry other after k (subst (λ (xs : List LogEntry). IsSoundBook secret stated view xs) split book) there is same) (decided_gives sources) from.behind in
-    omega (arith, all, wrote, accepted, promised, synced, decided)
+    let marked = few_kind sources place_shown place_marked e es
+    (λ before entry after split other there k is same. marked_differs before entry other k (from.rising before entry after split) there is same) (marked_gives sources) from.behind in
+    let installed = few_kind sources place_joined place_installed e es
+    (λ before entry after split other there k is same. installed_differs before entry other k (book.lawful before entry after split) there is same) (installed_gives sources) from.behind in
+    omega (arith, all, wrote, accepted, promised, synced, decided, marked, installed)
 
 pub few_entries : (secret : List ℕ) (stated : List Statement) (view : View) (sources : List (List ℕ)) (es : List LogEntry) → IsSoundBook secret stated view es → FromBook sources es
-    → length es ≤ 5 * length sources + 1
+    → length es ≤ 7 * length sources + 1
 few_entries secret stated view sources [] book from = omega arith
 few_entries secret stated view sources (e ∷ es) book from = let few = few_behind secret stated view sources e es book from in omega (arith, few)

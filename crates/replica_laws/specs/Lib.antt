@@ -1,3 +1,4 @@
+pub mod Bases
 pub mod Books
 pub mod Lines
 pub mod Sending

@@ -48,3 +48,11 @@ HeldRight m view list n = Each (λ h. ReplyRight m view list h.message) n.held
 -- a node of which each held reply tells an execution of the batches that its book decides
 abbrev pub HoldsExecuted : {S : Type 0} → Meaning S → View → Node S → Type 0
 HoldsExecuted m view n = HeldRight m view (decided_of 0 n.entries) n
+
+-- a message that tells one of these executions, if it is a reply
+abbrev pub ReplyAmong : List Execution → Message → Type 0
+ReplyAmong lines message = IfSome (reply_in message) (λ a. HasLine lines (line_told a.statement))
+
+-- a node of which each held reply tells one of these executions
+abbrev pub HoldsAmong : {S : Type 0} → List Execution → Node S → Type 0
+HoldsAmong lines n = Each (λ h. ReplyAmong lines h.message) n.held

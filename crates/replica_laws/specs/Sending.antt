@@ -17,7 +17,7 @@ use Rattle.smart_messages.specs.declared.message.Message.TheVariants.{Ask, Propo
 use Rattle.smart_messages.specs.declared.message.Message.{Message}
 use Rattle.vote_book.specs.declared.entry.LogEntry.{LogEntry}
 use Rattle.replica_rules.specs.Seals.{is_verified, digest_of}
-use Rattle.agreement_laws.specs.Statements.{head}
+use Rattle.agreement_laws.specs.Statements.{own}
 use Rattle.agreement_laws.specs.Diaries.{IsShown}
 use Rattle.node_rules.specs.Nodes.{Node, ring_of}
 use Rattle.node_rules.specs.Steps.{leaving}
@@ -31,7 +31,8 @@ IsToNode (targets.Client client) = ⊥
 IsToNode targets.View = ⊥
 
 -- A message that a member may hold for a target. It names the member as its signer; a reply goes to the client that it names, and a report
--- to one member. A request may be a client's, passed on to one member.
+-- to one member. A request may be a client's, passed on to one member. A decision and a part are anybody's, shown to one member. An ask for
+-- state and an offer name the member, and so does each mark of an offer.
 abbrev pub IsOwn : ℕ → Target → Message → Type 0
 IsOwn id to (Ask q) = IsToNode to
 IsOwn id to (Propose p) = p.head.signer ≡ id
@@ -41,13 +42,18 @@ IsOwn id to (changes.Stop s) = s.signer ≡ id
 IsOwn id to (changes.StopData r) = (r.head.signer ≡ id) × IsToNode to
 IsOwn id to (changes.Sync s) = s.signer ≡ id
 IsOwn id to (changes.Mark m) = m.signer ≡ id
+IsOwn id to (changes.Decision d) = IsToNode to
+IsOwn id to (changes.StateAsk a) = a.member ≡ id
+IsOwn id to (changes.StateOffer o) = (o.member ≡ id) × (Each (λ m. m.signer ≡ id) o.marks × IsToNode to)
+IsOwn id to (changes.StatePart p) = IsToNode to
 
--- Entries that a message rests on: those that show the statement that it is signed as. A vote has its own entry, a reply its place or a later
--- one. A report has its promise, after entries that are what it says. Other messages rest on nothing.
+-- Entries that a message rests on: those that show the statements that it is signed as. A vote has its own entry, a reply its place or a later
+-- one. A report has its promise, after entries that are what it says. A MARK has its mark's entry, and an offer an entry for each of its marks.
+-- Other messages rest on nothing.
 abbrev pub RestsOn : List LogEntry → Message → Type 0
-RestsOn entries m = IsShown digest_of entries (head m)
+RestsOn entries m = Each (IsShown digest_of entries) (own m)
 
--- a message that orders requests, answers one, or marks a place; it has at most 1,048,576 bytes
+-- a message that orders requests, answers one, marks a place, or asks for state or gives a part of it; it has at most 1,048,576 bytes
 abbrev pub orders : Message → Bool
 orders (Ask q) = true
 orders (Propose p) = true
@@ -57,6 +63,10 @@ orders (changes.Stop s) = false
 orders (changes.StopData r) = false
 orders (changes.Sync s) = false
 orders (changes.Mark m) = true
+orders (changes.Decision d) = false
+orders (changes.StateAsk a) = true
+orders (changes.StateOffer o) = false
+orders (changes.StatePart p) = true
 
 -- a node whose leaving messages rest on firm entries
 abbrev pub LeavesFirm : {S : Type 0} → Node S → Type 0
@@ -69,7 +79,8 @@ abbrev pub all_tagged : List ℕ → Option Batch → Bool
 all_tagged secret None = true
 all_tagged secret (Some batch) = list_all (λ q. is_verified requests secret q) batch
 
--- a message that bears its signer's tag, as do each request of a batch and each report of a SYNC in it
+-- a message that bears its signer's tag, as do each request of a batch, each report of a SYNC, each ACCEPT of a decision and each mark of an
+-- offer in it
 abbrev pub is_tagged : List ℕ → Message → Bool
 is_tagged secret (Ask q) = is_verified requests secret q
 is_tagged secret (Propose p) = is_verified proposals secret p.head && list_all (λ q. is_verified requests secret q) p.batch
@@ -79,6 +90,10 @@ is_tagged secret (changes.Stop s) = is_verified stops secret s
 is_tagged secret (changes.StopData r) = is_verified reports secret r.head && all_tagged secret r.batch
 is_tagged secret (changes.Sync s) = is_verified syncs secret s && list_all (λ r. is_verified reports secret r) s.statement.collect
 is_tagged secret (changes.Mark m) = is_verified marks secret m
+is_tagged secret (changes.Decision d) = list_all (λ b. is_verified ballots secret b) d.accepts && list_all (λ q. is_verified requests secret q) d.batch
+is_tagged secret (changes.StateAsk a) = true
+is_tagged secret (changes.StateOffer o) = list_all (λ m. is_verified marks secret m) o.marks
+is_tagged secret (changes.StatePart p) = true
 
 -- a report that bears no evidence if its last place is 0
 abbrev pub IsTerse : Report → Type 0

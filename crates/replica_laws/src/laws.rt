@@ -1,5 +1,5 @@
 //! The laws of one node.
-ghost use Rattle.std.specs.Prelude.{◌≡◌, ◌<◌, ◌≤◌, ◌^◌, max, ℕ, true, List};
+ghost use Rattle.std.specs.Prelude.{◌≡◌, ◌<◌, ◌≤◌, ◌^◌, ◌++◌, max, ℕ, true, List};
 ghost use Rattle.smart_base.specs.Lists.{Each};
 ghost use Rattle.smart_base.specs.Views.{View, is_view};
 ghost use Rattle.smart_statements.specs.Spelling.{IsSigner};
@@ -13,8 +13,10 @@ ghost use Rattle.node_rules.specs.Nodes.{Node};
 ghost use Rattle.node_rules.specs.Steps.{step_of, Outset, outset, opened};
 ghost use Rattle.node_rules.specs.Reopening.{reopened};
 ghost use Rattle.node_rules.specs.Kept.{node_after};
-ghost use Rattle.replica_laws.specs.Books.{passing, begins, AcceptsOnce, DeliversInOrder};
-ghost use Rattle.replica_laws.specs.Lines.{HasLine, InOrder, HoldsExecuted};
+ghost use Rattle.replica_laws.specs.Books.{passing, begins, is_installation, AcceptsOnce, DeliversInOrder};
+ghost use Rattle.replica_laws.specs.Bases.{base_of, lines_of};
+ghost use Rattle.replica_laws.specs.Lines.{HasLine, InOrder, HoldsExecuted, HoldsAmong};
+ghost use Rattle.smart_service.specs.Tables.{kept_in};
 ghost use Rattle.replica_laws.specs.Sending.{LeavesFirm, HoldsOwn, IsByteEvent, HoldsGenuine};
 
 use smart_service::service::Service;
@@ -25,10 +27,11 @@ pub fn accepts_once<S: Service>()
     ensures { (o : Outset S) (events : List NodeEvent) → AcceptsOnce (node_after S.meaning (opened o) events).entries }
 {}
 
-/// A node's replica is the one that it began with after the batches that it decided past that one's
-/// place, in order, whatever comes. If a batch waits, the replica lacks it.
+/// A node's replica is that of its base after the batches that it decided past the base's place, in
+/// order, whatever comes. If a batch waits, the replica lacks it. The base is the replica that the node
+/// began with, or the one that it took over last.
 pub fn delivers_in_order<S: Service>()
-    ensures { (o : Outset S) (events : List NodeEvent) → DeliversInOrder S.meaning o.replica (node_after S.meaning (opened o) events) }
+    ensures { (o : Outset S) (events : List NodeEvent) → DeliversInOrder S.meaning (base_of S.meaning o.replica (opened o) events) (node_after S.meaning (opened o) events) }
 {}
 
 /// A client's request of a number is executed at most once, whatever batches are delivered (state
@@ -39,13 +42,24 @@ pub fn executes_once<S: Service>()
     ensures ordered { (view : View) (list : List Batch) → InOrder (executions S.meaning view list) }
 {}
 
-/// Whatever comes, each reply that a node holds tells an execution of the batches that its book
-/// decides: the reply of that execution, to that client and number, at that place and index, in that
-/// view. So it is of a node that has been opened, and of one that has been reopened, from whatever
+/// Whatever comes, each reply that a node holds tells an execution that the node knows: the reply of
+/// that execution, to that client and number, at that place and index, in that view. It knows the
+/// executions of what it delivered, and those that the table has of each replica that it began with or
+/// took over. So it is of a node that has been opened, and of one that has been reopened, from whatever
 /// entries.
+///
+/// More is said if the node began with the empty replica, and its book tells of no installation. Then
+/// each held reply tells an execution of the batches that its book decides, on the empty replica. A
+/// reopened node's book may tell of as many installations as the entries that it went on from.
 pub fn replies_tell_executions<S: Service>()
-    ensures opened { (secret : List ℕ) (id : ℕ) (view : View) (period : ℕ) (events : List NodeEvent) → HoldsExecuted S.meaning view (node_after S.meaning (opened (outset S.meaning secret id view period)) events) }
-    ensures reopened { (secret : List ℕ) (id : ℕ) (view : View) (period : ℕ) (entries : List LogEntry) (events : List NodeEvent) →
+    ensures opened { (o : Outset S) (events : List NodeEvent) → HoldsAmong (kept_in o.replica.table ++ lines_of S.meaning (opened o) events) (node_after S.meaning (opened o) events) }
+    ensures reopened { (o : Outset S) (entries : List LogEntry) (events : List NodeEvent) →
+        let n = reopened S.meaning o entries in HoldsAmong (kept_in n.replica.table ++ lines_of S.meaning n events) (node_after S.meaning n events) }
+    ensures alone_opened { (secret : List ℕ) (id : ℕ) (view : View) (period : ℕ) (events : List NodeEvent) →
+        passing is_installation (node_after S.meaning (opened (outset S.meaning secret id view period)) events).entries ≡ 0 →
+        HoldsExecuted S.meaning view (node_after S.meaning (opened (outset S.meaning secret id view period)) events) }
+    ensures alone_reopened { (secret : List ℕ) (id : ℕ) (view : View) (period : ℕ) (entries : List LogEntry) (events : List NodeEvent) →
+        passing is_installation (node_after S.meaning (reopened S.meaning (outset S.meaning secret id view period) entries) events).entries ≤ passing is_installation entries →
         HoldsExecuted S.meaning view (node_after S.meaning (reopened S.meaning (outset S.meaning secret id view period) entries) events) }
 {}
 
@@ -64,24 +78,28 @@ pub fn a_regency_begins_once<S: Service>()
 
 /// A vote leaves only after its entry is firm. A reply leaves only after firm entries make its place
 /// or a later one. A report leaves only after its promise is firm, and firm entries before that are
-/// what it says. For other messages nothing is claimed. That replies wait for the log is Dura-SMaRt's
-/// (USENIX ATC 2013); that votes and reports do is this project's own rule.
+/// what it says. A MARK leaves only after the entry of its mark is firm. An offer of state leaves only
+/// after the entries of all its marks are firm. For other messages nothing is claimed. That replies
+/// wait for the log is Dura-SMaRt's (USENIX ATC 2013). That votes, reports and marks do is this
+/// project's own rule.
 ///
-/// Whatever comes to a node that has let nothing go yet, each vote, report and reply that would leave
-/// it now rests on firm entries.
+/// Whatever comes to a node that has let nothing go yet, each vote, report, reply, MARK and offer of
+/// state that would leave it now rests on firm entries.
 pub fn votes_leave_when_firm<S: Service>()
     ensures { (secret : List ℕ) (id : ℕ) (view : View) (period : ℕ) (events : List NodeEvent) → LeavesFirm (node_after S.meaning (opened (outset S.meaning secret id view period)) events) }
 {}
 
 /// A message that a node holds names the node as its signer, whatever comes. The exception is a
 /// client's request that it passes on to one member. A reply goes to the client that it names, and a
-/// report to one member.
+/// report to one member. An offer names the node, and so does each mark in it. A decision and a part go to
+/// one member.
 pub fn holds_its_own<S: Service>()
     ensures { (secret : List ℕ) (id : ℕ) (view : View) (period : ℕ) (events : List NodeEvent) → HoldsOwn id (node_after S.meaning (opened (outset S.meaning secret id view period)) events) }
 {}
 
 /// A message that a node holds bears its signer's tag, whatever bytes come. Each request of a batch
-/// in it and each report of a SYNC bears its signer's tag too. Its bytes are read as itself. A SYNC
+/// in it, each report of a SYNC, each ACCEPT of a decision and each mark of an offer bears its signer's
+/// tag too. Its bytes are read as itself. A SYNC
 /// is read as itself if no report in it with last place 0 bears evidence.
 pub fn what_is_held_is_read<S: Service>()
     ensures { (secret : List ℕ) (id : ℕ) (view : View) (period : ℕ) (events : List NodeEvent) → IsSigner 1 id → is_view view ≡ true → Each IsByteEvent events →
