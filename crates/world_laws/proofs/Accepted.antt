@@ -43,6 +43,7 @@ use Rattle.smart_base.proofs.SameLists.{and_true}
 use Rattle.agreement_laws.proofs.Lists.{either, each_end, each_both, or_true}
 use Rattle.smart_base.proofs.ViewFacts.{each-weaken}
 use Rattle.vote_book.proofs.Tested.{same_bytes_is}
+use Rattle.world_rules.specs.declared.line.Header.{Header}
 
 -- the line of the execution that an accepted reply tells
 abbrev pub line_accepted : Acceptance → Execution
@@ -173,13 +174,14 @@ keeps-told m P telling k =
         inject = λ w x read fine p. (k.kept.inject w x read fine p.0, told-posts m w (from_script x) p.1);
         declare = λ w faulty rogue ending how p. (k.kept.declare w faulty rogue ending how p.0, record { all = p.1.all });
         same = λ w mark told p. (k.kept.same w mark told p.0, record { all = p.1.all });
+        meet = λ w texts on p. (k.kept.meet w texts on p.0, record { all = p.1.all });
       };
       resume = λ w i h down at p. (k.resume w i h down at p.0, record { all = p.1.all });
     }
 
 -- in the beginning nothing is accepted
-pub told-begun : {S : Type 0} (m : Meaning S) (view : View) → AcceptedTold m (begun m view)
-told-begun m view = record { all = tt }
+pub told-begun : {S : Type 0} (m : Meaning S) (g : Header) → AcceptedTold m (begun m g)
+told-begun m g = record { all = tt }
 
 -- what follows
 

@@ -1,11 +1,11 @@
 -- Each request that has been stated was asked by its client, unless it is rogue, and the requests of a place were asked after earlier places alone.
-use Rattle.std.proofs.Common.{◌≡◌, ap, ⊎_elim, ◌⊎◌, ◌∙◌, ℕ, nat_le, ◌<◌, ◌&&◌, not, sym, zero, suc, ◌+◌, ◌++◌, ◌==◌, Bool, true, false, List, [], ◌∷◌, length, refl, cond, Option, Some, None, nat_lt, inl, inr, subst, eqb-true, arith}
+use Rattle.std.proofs.Common.{◌≡◌, ap, ⊎_elim, ◌⊎◌, ◌∙◌, ℕ, nat_le, ◌<◌, ◌&&◌, sym, zero, suc, ◌+◌, ◌++◌, ◌==◌, Bool, true, false, List, [], ◌∷◌, length, refl, cond, Option, Some, None, nat_lt, inl, inr, subst, eqb-true, arith}
 use Rattle.std.proofs.lemmas.Bool.{ltb-true}
 use Rattle.std.specs.Prelude.{slice_get, option_map, IfSome}
-use Rattle.std.specs.List.{list_all, list_any}
+use Rattle.std.specs.List.{list_all}
 use Rattle.std.specs.Option.{option_and_then}
-use Rattle.smart_base.specs.Lists.{Each, same_bytes}
-use Rattle.smart_base.specs.Views.{View, is_view}
+use Rattle.smart_base.specs.Lists.{Each}
+use Rattle.smart_base.specs.Views.{View}
 use Rattle.smart_base.specs.declared.party.Party.TheVariants as parties
 use Rattle.smart_statements.specs.Forms.{SignedBy}
 use Rattle.smart_statements.specs.Kinds.{requests}
@@ -19,9 +19,8 @@ use Rattle.vote_book.specs.declared.entry.Decision.{Decision}
 use Rattle.vote_book.specs.declared.entry.LogEntry.{LogEntry}
 use Rattle.vote_book.specs.declared.entry.LogEntry.TheVariants.{Decided}
 use Rattle.replica_rules.specs.Replicas.{request_at, batch_at}
-use Rattle.replica_rules.specs.Seals.{signed, is_verified, digest_of, request_fits, is_managers, fits}
+use Rattle.replica_rules.specs.Seals.{signed, is_verified, digest_of, request_fits}
 use Rattle.node_rules.specs.Nodes.{Node, next_place, view_of}
-use Rattle.node_rules.specs.Arrivals.{is_batch_for}
 use Rattle.node_rules.specs.Steps.{step_of, leaving}
 use Rattle.node_rules.specs.declared.node.Held.{Held}
 use Rattle.agreement_laws.specs.Statements.{Statement, Asked, statements}
@@ -32,7 +31,7 @@ use Rattle.client_quorum.specs.Clients.{request_of}
 use Rattle.client_quorum.specs.declared.client.Client.{Client}
 use Rattle.world_rules.specs.Secrets.{group_secret}
 use Rattle.world_rules.specs.Premises.{is_among, is_from, is_forged}
-use Rattle.world_laws.specs.Promises.{HasAsked, IsRogue, IsAskedIn}
+use Rattle.world_laws.specs.Promises.{IsHeader, HasAsked, IsRogue, IsAskedIn}
 use Rattle.world_rules.specs.Worlds.{course_of, Host, World, posts, sends_all, chosen_with, stepped, hearing, begun}
 use Rattle.world_rules.specs.Plays.{world_after}
 use Rattle.world_rules.specs.declared.line.Line.{Line}
@@ -47,7 +46,8 @@ use Rattle.world_laws.proofs.Lists.{each_get}
 use Rattle.world_laws.proofs.Numbered.{EachAt, each_at_end, each_at_get, each_at_weaker}
 use Rattle.world_laws.proofs.Keeps.{IsRead, asked_by, by-posts, MayRead, may_read, KeepsAll, keeps-world_after, signed_by, from_node, from_client, from_script}
 use Rattle.world_laws.proofs.Asks.{asked_end, asked_now, asked_among}
-use Rattle.replica_laws.proofs.FitNodes.{IsBrief}
+use Rattle.replica_laws.proofs.Small.{IsBrief}
+use Rattle.world_laws.proofs.Snapshots.{IsRestorable}
 use Rattle.world_laws.proofs.Fitting.{fit-owns}
 use Rattle.world_laws.proofs.Grounded.{grounded-reads}
 use Rattle.world_laws.proofs.Stating.{Proper, says_message}
@@ -55,10 +55,10 @@ use Rattle.world_laws.proofs.Unforged.{content_proper, IsOwnStated, fine_own}
 use Rattle.replica_laws.proofs.Longer.{secret-step}
 use Rattle.world_laws.proofs.Witnessing.{stated_event, stated-grows, stated-either}
 use Rattle.world_laws.proofs.Chosen.{HostRight, ChosenRight}
-use Rattle.world_laws.proofs.ChosenKept.{asks_alone, chosen-kept, chosen-begun, no_member}
-use Rattle.replica_laws.proofs.Checked.{fits_each}
+use Rattle.world_laws.proofs.ChosenKept.{asks_alone, chosen-kept, chosen-begun, may_fit, no_member}
 use Rattle.smart_base.proofs.SameLists.{and_true}
 use Rattle.smart_base.proofs.ViewFacts.{each-weaken}
+use Rattle.world_rules.specs.declared.line.Header.{Header}
 
 -- a request was asked, or its client is rogue
 abbrev pub AskedUnlessRogue : List ℕ → List Sent → Request → Type 0
@@ -147,12 +147,6 @@ leaving_asked rogue sent id firm T es (h ∷ hs) asked each =
     (λ q there. asked q (held_asked id T es h q each.0 there), leaving_asked rogue sent id firm T es hs asked each.1) tt
 
 -- a batch is chosen
-
-may_fit : (secret : List ℕ) (place : ℕ) (digest : List ℕ) (batch : Batch) → is_batch_for secret place digest batch ≡ true → list_all (request_fits secret place) batch ≡ true
-unfolding is_batch_for
-may_fit secret place digest batch is =
-    fits_each secret batch place
-    (and_true (fits secret batch place) (not (list_any is_managers batch)) (and_true (fits secret batch place && not (list_any is_managers batch)) (same_bytes (digest_of batch) digest) is).0).0
 
 -- each request of a batch that may stand at a place stands there
 each_stands : (T : List Statement) (place : ℕ) (qs : Batch) → AreAsked group_secret T qs → list_all (request_fits group_secret place) qs ≡ true → Each (Stands T place) qs
@@ -263,14 +257,14 @@ asked-ask w c q own is =
     statement a b is = cc
 
 -- each request that has been stated was asked by its client, unless it is rogue
-pub keeps-asked : {S : Type 0} (m : Meaning S) → IsBrief m → KeepsAll (course_of m) (λ w. ChosenRight m w × RequestsAsked w)
+pub keeps-asked : {S : Type 0} (m : Meaning S) → IsBrief m → IsRestorable m → KeepsAll (course_of m) (λ w. ChosenRight m w × RequestsAsked w)
 unfolding hearing
-keeps-asked {S = S} m brief =
-    let k : KeepsAll (course_of m) (ChosenRight m) = chosen-kept m brief in
+keeps-asked {S = S} m brief service =
+    let k : KeepsAll (course_of m) (ChosenRight m) = chosen-kept m brief service in
     record {
       kept = record {
         event = λ w i h event up at may p.
-            let read : MayRead w h event = may_read w h event (grounded-reads w p.0.0.0) may in
+            let read : MayRead w h event = may_read w h event (grounded-reads w p.0.0.0) may.come in
             let hr : HostRight w.sent m w.view w.chosen h = each_get (HostRight w.sent m w.view w.chosen) w.hosts i h p.0.1.right at in (
               k.kept.event w i h event up at may p.0,
               asked-stepped m w i h event at read (secret-step m h.node event ∙ hr.shared) p.0 p.1,
@@ -293,6 +287,7 @@ keeps-asked {S = S} m brief =
           record { each = λ q there. asked-more w.rogue rogue w.sent w.sent how.more_rogue (λ r asked. asked) q.statement (p.1.each q there); chosen = p.1.chosen; clients = p.1.clients },
         );
         same = λ w mark told p. (k.kept.same w mark told p.0, record { each = p.1.each; chosen = p.1.chosen; clients = p.1.clients });
+        meet = λ w texts on p. (k.kept.meet w texts on p.0, record { each = p.1.each; chosen = p.1.chosen; clients = p.1.clients });
       };
       resume = λ w i h down at p. (k.resume w i h down at p.0, record { each = p.1.each; chosen = p.1.chosen; clients = p.1.clients });
     }
@@ -300,13 +295,13 @@ keeps-asked {S = S} m brief =
 -- the beginning
 
 -- a world begins with no request
-pub asked-begun : {S : Type 0} (m : Meaning S) (view : View) → RequestsAsked (begun m view)
-asked-begun m view = record { each = λ q never. absurd never; chosen = tt; clients = tt }
+pub asked-begun : {S : Type 0} (m : Meaning S) (g : Header) → RequestsAsked (begun m g)
+asked-begun m g = record { each = λ q never. absurd never; chosen = tt; clients = tt }
 
 -- after any lines of any script, each request was asked by its client, unless it is rogue
-pub asked-after : {S : Type 0} (m : Meaning S) → IsBrief m → (view : View) (ls : List Line) → is_view view ≡ true → RequestsAsked (world_after (course_of m) (begun m view) ls)
-asked-after {S = S} m brief view ls is =
-    (keeps-world_after (course_of m) (λ (w : World S). ChosenRight m w × RequestsAsked w) (keeps-asked m brief) (begun m view) ls (chosen-begun m view is, asked-begun m view)).1
+pub asked-after : {S : Type 0} (m : Meaning S) → IsBrief m → IsRestorable m → (g : Header) (ls : List Line) → IsHeader g → RequestsAsked (world_after (course_of m) (begun m g) ls)
+asked-after {S = S} m brief service g ls is =
+    (keeps-world_after (course_of m) (λ (w : World S). ChosenRight m w × RequestsAsked w) (keeps-asked m brief service) (begun m g) ls (chosen-begun m g is, asked-begun m g)).1
 
 -- what follows
 
@@ -339,5 +334,5 @@ pub stands_right : {S : Type 0} (w : World S) (place index : ℕ) (q : Request) 
 stands_right w place index q is at = stands_found w place (batch_at w.chosen place) index q is (λ batch found. batch_good w place batch is found) at
 
 -- after any lines of any script, each request that has been stated was asked, unless its client is rogue
-pub stated_asked-after : {S : Type 0} (m : Meaning S) → IsBrief m → (view : View) (ls : List Line) → is_view view ≡ true → StatedAsked (world_after (course_of m) (begun m view) ls)
-stated_asked-after m brief view ls is = record { each = (asked-after m brief view ls is).each }
+pub stated_asked-after : {S : Type 0} (m : Meaning S) → IsBrief m → IsRestorable m → (g : Header) (ls : List Line) → IsHeader g → StatedAsked (world_after (course_of m) (begun m g) ls)
+stated_asked-after m brief service g ls is = record { each = (asked-after m brief service g ls is).each }

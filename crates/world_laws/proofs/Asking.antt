@@ -2,6 +2,7 @@
 use Rattle.std.proofs.Common.{◌≡◌, ℕ, zero, suc, ◌+◌, ◌++◌, ◌≤◌, List, [], ◌∷◌, refl, ap, ◌∙◌, sym, Option, Some, None, inl, inr, ◌⊎◌, subst, arith, max, append-nil}
 use Rattle.node_rules.specs.Nodes.{view_of}
 use Rattle.std.specs.Prelude.{slice_get, slice_set}
+use Rattle.std.specs.List.{flat_map}
 use Rattle.smart_base.specs.Lists.{Each}
 use Rattle.smart_base.specs.Views.{View}
 use Rattle.smart_statements.specs.Forms.{SignedBy}
@@ -14,7 +15,7 @@ use Rattle.node_rules.specs.declared.node.Held.{Held}
 use Rattle.client_quorum.specs.Clients.{fresh, request_of, asking, learning, acceptance, after_heard}
 use Rattle.world_rules.specs.Clients.{heard}
 use Rattle.world_laws.specs.Promises.{HasAsked, AreApart, IsAskedIn}
-use Rattle.world_rules.specs.Worlds.{Course, Host, World, posts, stepped, acceptance_in, hearing, clients_from, begun}
+use Rattle.world_rules.specs.Worlds.{Course, Host, World, posts, all_ending, snapshot_in, stepped, acceptance_in, hearing, clients_from, begun}
 use Rattle.world_rules.specs.Plays.{rested, world_after}
 use Rattle.client_quorum.specs.declared.client.Client.{Client}
 use Rattle.world_rules.specs.declared.line.Line.{Line}
@@ -25,6 +26,7 @@ use Rattle.world_rules.specs.declared.message.Ending.{Ending}
 use Rattle.world_rules.specs.declared.message.Origin.TheVariants as origins
 use Rattle.world_rules.specs.declared.message.Sent.{Sent}
 use Rattle.world_laws.proofs.Numbered.{EachAt, each_at_get, each_at_weaker, each_at_set}
+use Rattle.world_laws.proofs.Meeting.{met-goes_on}
 use Rattle.world_laws.proofs.Keeps.{ask_of, asked_by, by-posts-ended, KeepsLives, live-world_after, signed_by, from_node, from_client, from_script, keeps-sends_all}
 use Rattle.world_laws.proofs.Asks.{asked_end, asked_now}
 use Rattle.world_laws.proofs.Hearing.{Accepts, accepts_waiting}
@@ -32,6 +34,7 @@ use Rattle.world_rules.specs.declared.message.Content.{Content}
 use Rattle.world_rules.specs.declared.message.Content.TheVariants as contents
 use Rattle.agreement_laws.proofs.Lists.{some_equal, each_end}
 use Rattle.smart_base.proofs.ViewFacts.{each-weaken}
+use Rattle.world_rules.specs.declared.line.Header.{Header}
 
 -- a request that waits is its client's last, no reply to its number was accepted, and it was asked, unless its message had no number any more
 pub record Waits (sent : List Sent) (ending : Option Ending) (accepted : List Acceptance) (i last : ℕ) (q : Request) : Type 0 where
@@ -125,7 +128,12 @@ right-posts {S = S} w s quiet is =
 right-stepped : {S : Type 0} (course : Course S) (w : World S) (i : ℕ) (h : Host S) (o : Outcome S) → ClientsRight w → ClientsRight (stepped course w i h o)
 unfolding stepped
 right-stepped course w i h o is =
-    keeps-sends_all ClientsRight h.node.id (view_of o.node) (λ v held right. right-posts v (from_node h.node.id (view_of o.node) held) (node_quiet h.node.id (view_of o.node) held) right) _ (leaving o.node.firm o.node.held) (record { all = is.all })
+    let snapshots : List (List ℕ) = flat_map snapshot_in o.fired in
+    keeps-sends_all ClientsRight h.node.id (view_of o.node) (λ v held right. right-posts v (from_node h.node.id (view_of o.node) held) (node_quiet h.node.id (view_of o.node) held) right) _ (leaving o.node.firm o.node.held)
+    (record {
+      all = right-sent w.sent w.sent w.ending (all_ending w.sent w.marked w.ending snapshots) w.clients w.accepted (λ q asked. asked) (λ q asked. asked)
+          (met-goes_on w.sent w.marked w.ending snapshots) is.all;
+    })
 
 -- a client asks
 
@@ -310,6 +318,8 @@ keeps-right course =
         inject = λ w x on read fine is. right-posts w (from_script x) (script_quiet x) is;
         declare = λ w faulty rogue ending on how is. record { all = right-sent w.sent w.sent w.ending ending w.clients w.accepted (λ q asked. asked) (λ q asked. asked) how.over is.all };
         mark = λ w s on at is. record { all = is.all };
+        meet = λ w texts on is.
+            record { all = right-sent w.sent w.sent w.ending (all_ending w.sent w.marked w.ending texts) w.clients w.accepted (λ q asked. asked) (λ q asked. asked) (met-goes_on w.sent w.marked w.ending texts) is.all };
         tell = λ w line aside is. record { all = is.all };
       };
       crash = λ w i h left on up at may is. record { all = is.all };
@@ -330,8 +340,8 @@ each_fresh P (suc count) i each =
     (subst (λ (n : ℕ). P zero (fresh n)) (omega arith) (each zero), each_fresh (λ k. P (suc k)) count (i + 1) (λ k. subst (λ (n : ℕ). P (suc k) (fresh n)) (omega arith) (each (suc k))))
 
 -- clients begin right
-pub right-begun : {S : Type 0} (m : Meaning S) (view : View) → ClientsRight (begun m view)
-right-begun m view =
+pub right-begun : {S : Type 0} (m : Meaning S) (g : Header) → ClientsRight (begun m g)
+right-begun m g =
     record {
       all = record {
         each = each_fresh (ClientRight [] None []) 1025 0 (λ k. record { id = omega arith; waits = λ q waits. absurd (no_request q waits); last = λ q asked own. absurd asked });
@@ -345,5 +355,5 @@ right-begun m view =
     no_request r same = cc
 
 -- after any lines of any script, clients are right
-pub right-after : {S : Type 0} (m : Meaning S) (course : Course S) (view : View) (ls : List Line) → ClientsRight (world_after course (begun m view) ls)
-right-after m course view ls = live-world_after course ClientsRight (keeps-right course) rested-right (begun m view) ls (right-begun m view)
+pub right-after : {S : Type 0} (m : Meaning S) (course : Course S) (g : Header) (ls : List Line) → ClientsRight (world_after course (begun m g) ls)
+right-after m course g ls = live-world_after course ClientsRight (keeps-right course) rested-right (begun m g) ls (right-begun m g)

@@ -1,23 +1,23 @@
 -- What a member has sent rests on entries that became firm there.
-use Rattle.store_laws.specs.Restored.{Images, restores}
+use Rattle.store_laws.specs.Restored.{Images}
+use Rattle.store_laws.specs.States.{StoreState}
 use Rattle.smart_base.specs.declared.party.Party.TheVariants as parties
 use Rattle.smart_base.specs.declared.party.Party.{Party}
 use Rattle.agreement_laws.specs.Fronts.{IsFront}
-use Rattle.node_rules.specs.Reopening.{entries_in, reopened}
-use Rattle.replica_laws.proofs.FitNodes.{IsBrief}
+use Rattle.replica_laws.proofs.Small.{IsBrief}
+use Rattle.world_laws.proofs.Snapshots.{IsRestorable}
 use Rattle.world_rules.specs.Stated.{stated}
 use Rattle.world_laws.specs.Sending.{AllGenuine}
 use Rattle.world_laws.proofs.Fitting.{all_genuine}
 use Rattle.world_laws.proofs.Views.{view-step}
-use Rattle.world_laws.proofs.Lives.{book_left, lasts-stepped}
-use Rattle.world_laws.proofs.Reopens.{rests_reopened}
+use Rattle.world_laws.proofs.Lives.{book_left, Running, Stopped, fits_now, take-from}
+use Rattle.world_laws.proofs.Reopens.{from_held}
 use Rattle.world_laws.proofs.Chosen.{HostRight, ChosenRight}
-use Rattle.world_laws.proofs.ChosenLives.{named}
-use Rattle.world_laws.proofs.ChosenKept.{host-right, resumed-right, resumes-diary, keeps-both, chosen-kept, chosen-begun}
-use Rattle.std.proofs.Common.{◌≡◌, ℕ, zero, suc, ◌+◌, ◌≤◌, ◌++◌, List, [], ◌∷◌, length, refl, ap, ◌∙◌, sym, arith, Option, Some, None, inl, inr, ⊎_elim, subst, take, length-append, append-nil, true, not, drop, false}
-use Rattle.std.specs.Prelude.{slice_get, slice_set}
+use Rattle.world_laws.proofs.ChosenKept.{resumed-right, keeps-both, chosen-kept, chosen-begun, left_host, resumed_on, stopped_host}
+use Rattle.std.proofs.Common.{◌≡◌, ℕ, zero, suc, ◌+◌, ◌≤◌, ◌++◌, List, [], ◌∷◌, length, refl, ap, ◌∙◌, sym, arith, Option, Some, None, inl, inr, ⊎_elim, subst, take, length-append, append-nil, true, not, drop, false, Err, Ok, Result, append_assoc, ◌<◌}
+use Rattle.std.specs.Prelude.{IfSome, slice_get, slice_set}
 use Rattle.smart_base.specs.Lists.{Each}
-use Rattle.smart_base.specs.Views.{View, is_view, present}
+use Rattle.smart_base.specs.Views.{View, present, is_view}
 use Rattle.smart_statements.specs.Forms.{SignedBy}
 use Rattle.smart_statements.specs.declared.statement.Answer.{Answer}
 use Rattle.smart_messages.specs.Messages.{decoded}
@@ -28,12 +28,12 @@ use Rattle.smart_statements.specs.declared.entry.NodeEvent.{NodeEvent}
 use Rattle.smart_statements.specs.declared.entry.NodeEvent.TheVariants.{Arrive, Tick, Deliver, Firm}
 use Rattle.smart_service.specs.Services.{Meaning}
 use Rattle.vote_book.specs.declared.entry.LogEntry.{LogEntry}
-use Rattle.node_rules.specs.Nodes.{Node, view_of}
-use Rattle.node_rules.specs.Steps.{Outcome, made_firm, step_of, leaving}
+use Rattle.node_rules.specs.Nodes.{Node, next_place, view_of}
+use Rattle.node_rules.specs.Steps.{Outcome, made_firm, step_of, leaving, opened, outset}
 use Rattle.node_rules.specs.declared.node.Held.{Held}
 use Rattle.world_rules.specs.Repeats.{repeated}
-use Rattle.world_rules.specs.Secrets.{group_secret, period}
-use Rattle.world_rules.specs.Worlds.{course_of, Host, World, posts, sends_all, host_after, stepped, host_takes, node_takes, settle_once, settle_all, gives, heard_by, hearing, flow_once, hosts_from, begun, at_listed, host_crashed, host_resumed, from_to, is_up, is_halted, reaches, client_hears, hears_bytes, client_takes, outset_of}
+use Rattle.world_rules.specs.Secrets.{group_secret}
+use Rattle.world_rules.specs.Worlds.{course_of, Host, World, posts, sends_all, host_after, stepped, host_takes, node_takes, settle_once, settle_all, gives, heard_by, hearing, flow_once, hosts_from, begun, at_listed, host_crashed, host_resumed, from_to, is_up, is_halted, meets, takes_met, reaches, client_hears, hears_bytes, client_takes, outset_of, host_of_node, parts_held}
 use Rattle.world_rules.specs.Plays.{world_after}
 use Rattle.world_rules.specs.declared.line.Line.{Line}
 use Rattle.world_rules.specs.declared.message.Origin.{Origin}
@@ -43,28 +43,69 @@ use Rattle.world_rules.specs.declared.message.Content.TheVariants as contents
 use Rattle.world_rules.specs.declared.message.Sent.{Sent}
 use Rattle.replica_laws.specs.Sending.{IsOwn, RestsOn}
 use Rattle.replica_laws.proofs.Leaving.{leaving_rest}
-use Rattle.replica_laws.proofs.Onward.{rests-more, NodeRests, Onward, onward-step, rests-released, rests-opened, Longer, longer-append}
+use Rattle.replica_laws.proofs.Onward.{rests-more, HasDecided, HoldsRight, NodeRests, Onward, onward-step, rests-released, rests-opened, Longer, longer-append}
 use Rattle.world_laws.specs.Sending.{IsRested, Bears, IsBorneAt, IsBorne, SentFirm, IsOwnSent}
 use Rattle.world_laws.specs.Settling.{flow_begins, flow_goes, message_goes, node_goes, settles_present}
 use Rattle.world_laws.proofs.Lists.{each_set, each_get, repeated_keeps, each_from_keeps}
-use Rattle.world_laws.proofs.Stores.{Fits, IsTold, may-told, firm-grows, fits-called, fits-stepped, fits-opened}
-use Rattle.world_laws.proofs.Keeps.{after_call, called, ask_of, asked_by, by-posts, Keeps, KeepsCalm, live, calm, keeps-world_after, live-settle_once, live-settle, live-settle_all, live-flow_once, at_listed-keeps, signed_by, from_node, from_client, from_script, live-settles_present, IsDown, KeepsAll, with_host, node_resumed, entries_left, is-up, give_one-keeps, goes-keeps}
-use Rattle.agreement_laws.proofs.Lists.{either, some_equal, each_end, either_by, not_false}
+use Rattle.world_laws.proofs.Stores.{IsTold, may-told, firm-grows, LastFits, Stored, stored-called, stored-opened, stored-stepped}
+use Rattle.world_laws.proofs.Keeps.{after_call, called, ask_of, asked_by, by-posts, Keeps, KeepsCalm, live, calm, keeps-world_after, live-settle_once, live-settle, live-settle_all, live-flow_once, at_listed-keeps, signed_by, from_node, from_client, from_script, live-settles_present, IsDown, KeepsAll, with_host, node_resumed, is-up, give_one-keeps, goes-keeps}
+use Rattle.agreement_laws.proofs.Lists.{either, some_equal, each_end, either_by, not_false, among_left, among_right, each_both}
 use Rattle.smart_base.proofs.ViewFacts.{each-weaken}
+use Rattle.world_rules.specs.declared.line.Header.{Header}
+use Rattle.world_laws.specs.Promises.{IsHeader}
+use Rattle.node_laws.specs.Sound.{AreAmong, IsPast, IsSound, IsStatedEvent}
+use Rattle.node_laws.specs.Sound as sounds
+use Rattle.smart_statements.specs.Batches.{Batch}
+use Rattle.node_rules.specs.Transfers.{completed_by}
+use Rattle.vote_book.specs.Books.{HasMade, Lawful}
+use Rattle.world_laws.proofs.Late.{AllPast, HeldLate, late-none, late-released, late-step}
+use Rattle.node_laws.specs.Restored.{IsSoundBook}
+use Rattle.agreement_laws.specs.Diaries.{IsShown}
+use Rattle.agreement_laws.specs.Statements.{Statement, statements}
+use Rattle.agreement_laws.specs.Statements as says
+use Rattle.replica_rules.specs.Seals.{digest_of}
+use Rattle.world_laws.proofs.Witnessing.{among-all, firm_parts}
+use Rattle.node_laws.proofs.Restored.{book_more, book_sound, front_of, front_sound}
+use Rattle.world_rules.specs.Fronts.{count_kept}
+use Rattle.book_laws.specs.BookCuts.{cut_at}
+use Rattle.replica_laws.proofs.Waiting.{each-leaving}
+use Rattle.vote_book.proofs.Tidy.{front_lawful}
+use Rattle.replica_laws.proofs.Longer.{opening-step, secret-step}
+use Rattle.world_laws.proofs.ChosenSteps.{restored-step}
+use Rattle.node_laws.proofs.CutShown.{shown_in_whole}
+use Rattle.node_laws.proofs.More.{sound_more}
+use Rattle.node_laws.proofs.Passes.{sound_opened, sound_released, sound_step}
+use Rattle.node_laws.proofs.CutNodes.{sound_written}
+use Rattle.std.proofs.lemmas.List.{take-append-drop, take-append-le}
+use Rattle.std.proofs.Math.Seq.{take-append_seam}
 
 -- worlds
 
--- A node of a view, whose held messages are right; no more is firm than is written. Where it runs its store fits its book, and what is firm of that is its member's
--- diary.
+-- A running node whose store fits its book, and that is sound by some statements. Its life began with the first entries of its member's diary. What is
+-- firm of its book is the cut of these, and then the rest of the diary. Reports that it holds in its own name are of this life.
+pub record GoesWell {S : Type 0} (view : View) (h : Host S) : Type 0 where
+  pub stored : Stored h.node h.store
+  pub told : List Statement
+  pub sound : IsSound told view h.node
+  pub first : List LogEntry
+  pub later : List LogEntry
+  pub both : h.life.diary ≡ first ++ later
+  pub firm_is : take h.node.firm h.node.entries ≡ cut_at h.node.opening first ++ later
+  pub first_sound : IsSoundBook h.node.secret told view first
+  pub first_made : 0 < h.node.opening → HasMade first h.node.opening
+  pub first_is : h.node.restored ≡ length (cut_at h.node.opening first)
+  pub past : HeldLate view.number h.node
+
+-- A node of a view, whose held messages are right; no more is firm than is written. Where it runs it goes well.
 pub record HostRests {S : Type 0} (view : View) (h : Host S) : Type 0 where
   pub view_is : view_of h.node ≡ view
   pub rests : NodeRests h.node
-  pub stored : h.up ≡ true → Fits h.node h.store
-  pub diary : h.up ≡ true → h.life.diary ≡ take h.node.firm h.node.entries
+  pub well : h.up ≡ true → GoesWell view h
   pub low : h.node.firm ≤ length h.node.entries
 
 -- so are all nodes, and what was sent rests on entries that became firm
 pub record Borne {S : Type 0} (w : World S) : Type 0 where
+  pub viewed : is_view w.view ≡ true
   pub hosts : Each (HostRests w.view) w.hosts
   pub sent : SentFirm w
 
@@ -72,8 +113,9 @@ pub record Borne {S : Type 0} (w : World S) : Type 0 where
 borne-posts : {S : Type 0} (w : World S) (s : Sent) → IsOwnSent w.view s.origin s.to s.content → IsBorne w.hosts s.origin s.content → Borne w → Borne (posts w s)
 borne-posts {S = S} w s own borne is =
     by-posts (λ (v : World S). Borne v) w s
-    (λ ending. record { hosts = is.hosts; sent = record { own = is.sent.own; borne = is.sent.borne } })
+    (λ ending. record { viewed = is.viewed; hosts = is.hosts; sent = record { own = is.sent.own; borne = is.sent.borne } })
     (λ free room. record {
+      viewed = is.viewed;
       hosts = is.hosts;
       sent = record {
         own = each_end (λ (t : Sent). IsOwnSent w.view t.origin t.to t.content) w.sent s is.sent.own own;
@@ -142,6 +184,7 @@ borne-set hs i h h' at same more (origins.Node id) x borne =
 -- so it is in the world with that host
 borne-with : {S : Type 0} (w : World S) (i : ℕ) (h h' : Host S) → slice_get w.hosts i ≡ Some h → h'.node.id ≡ h.node.id → Longer h.life.diary h'.life.diary → HostRests w.view h' → Borne w → Borne (with_host w i h')
 borne-with {S = S} w i h h' at same more rests is = record {
+  viewed = is.viewed;
   hosts = each_set (HostRests w.view) w.hosts i h' is.hosts rests;
   sent = record {
     own = is.sent.own;
@@ -163,22 +206,127 @@ later-step m view h (Arrive bytes) up told is = later-onward h.node h.node _ ref
 later-step m view h Tick up told is = later-onward h.node h.node _ refl refl (omega arith) is.low (onward-step m h.node Tick is.rests)
 later-step m view h Deliver up told is = later-onward h.node h.node _ refl refl (omega arith) is.low (onward-step m h.node Deliver is.rests)
 later-step m view h (Firm count) up told is =
-    let grows = firm-grows h count told (is.stored up) in
+    let grows = firm-grows h count told (is.well up).stored.fits in
     later-onward h.node (made_firm h.node count) _ refl refl grows.0 grows.1 (onward-step m h.node (Firm count) is.rests)
 
--- a host whose node has stepped
-rests-after : {S : Type 0} (m : Meaning S) (view : View) (h : Host S) (event : NodeEvent) → h.up ≡ true → Later h.node (step_of m h.node event).node → HostRests view h
+-- what bytes that come state
+told_in : List ℕ → Result Message ℕ → List Statement
+told_in secret (Ok message) = statements secret message
+told_in secret (Err at) = []
+
+told_by : List ℕ → NodeEvent → List Statement
+told_by secret (Arrive bytes) = told_in secret (decoded bytes)
+told_by secret Tick = []
+told_by secret Deliver = []
+told_by secret (Firm count) = []
+
+-- with them it has been stated
+told_event : (secret : List ℕ) (told : List Statement) (event : NodeEvent) → IsStatedEvent secret (told ++ told_by secret event) event
+unfolding told_by told_in
+told_event secret told (Arrive bytes) = λ message read.
+    subst (λ (r : Result Message ℕ). AreAmong (statements secret message) (told ++ told_in secret r)) (sym read)
+    (among-all (statements secret message) (told ++ statements secret message) (λ x there. among_right x told (statements secret message) there))
+told_event secret told Tick = tt
+told_event secret told Deliver = tt
+told_event secret told (Firm count) = tt
+
+-- a host whose node has stepped goes well
+well-after : {S : Type 0} (m : Meaning S) (view : View) (h : Host S) (event : NodeEvent) → is_view view ≡ true → Later h.node (step_of m h.node event).node → h.node.firm ≤ length h.node.entries → GoesWell view h
+    → GoesWell view (host_after (course_of m) h (step_of m h.node event))
+well-after {S = S} m view h event viewed l low is =
+    let n : Node S = h.node in
+    let n' : Node S = (step_of m h.node event).node in
+    let told : List Statement = is.told ++ told_by n.secret event in
+    let more : AreAmong is.told told = among-all is.told told (λ x there. among_left x is.told (told_by n.secret event) there) in
+    let sound : IsSound told view n' = sound_step m told view n event viewed (sound_more is.told told more view n is.sound) (told_event n.secret is.told event) in
+    let opening : n'.opening ≡ n.opening = opening-step m n event in
+    let new : List LogEntry = from_to n.firm n'.firm n'.entries in
+    let old : take n.firm n'.entries ≡ take n.firm n.entries =
+    ap (λ (es : List LogEntry). take n.firm es) l.front.is ∙ take-append-le n.firm n.entries l.front.rest low in
+    record {
+      stored = stored-stepped m h event is.stored;
+      told = told;
+      sound = sound_released told view n' sound;
+      first = is.first;
+      later = is.later ++ new;
+      both = ap (λ (es : List LogEntry). es ++ new) is.both ∙ append_assoc is.first is.later new;
+      firm_is = sym (take-from n.firm n'.firm n'.entries l.more)
+          ∙ (ap (λ (es : List LogEntry). es ++ new) (old ∙ is.firm_is)
+          ∙ (append_assoc (cut_at n.opening is.first) is.later new ∙ ap (λ (k : ℕ). cut_at k is.first ++ (is.later ++ new)) (sym opening)));
+      first_sound = subst (λ (k : List ℕ). IsSoundBook k told view is.first) (sym (secret-step m n event)) (book_more is.told told more n.secret view is.first is.first_sound);
+      first_made = subst (λ (k : ℕ). 0 < k → HasMade is.first k) (sym opening) is.first_made;
+      first_is = restored-step m n event ∙ (is.first_is ∙ ap (λ (k : ℕ). length (cut_at k is.first)) (sym opening));
+      past = late-released view.number n' (late-step m view.number n event is.past);
+    }
+
+rests-after : {S : Type 0} (m : Meaning S) (view : View) (h : Host S) (event : NodeEvent) → is_view view ≡ true → h.up ≡ true → Later h.node (step_of m h.node event).node → HostRests view h
     → HostRests view (host_after (course_of m) h (step_of m h.node event))
-rests-after {S = S} m view h event up later is =
+rests-after {S = S} m view h event viewed up later is =
     let n' : Node S = (step_of m h.node event).node in
     record {
       view_is = view-step m h.node event ∙ is.view_is;
       rests = rests-released n' later.rests;
-      stored = λ up. fits-stepped m h event (is.stored up);
-      diary = λ up. ap (λ (es : List LogEntry). h.life.diary ++ from_to h.node.firm n'.firm es) later.front.is
-          ∙ (lasts-stepped h.life.diary h.node.firm n'.firm h.node.entries later.front.rest (is.diary up) is.low later.more ∙ ap (λ (es : List LogEntry). take n'.firm es) (sym later.front.is));
+      well = λ up. well-after m view h event viewed later is.low (is.well up);
       low = later.low;
     }
+
+-- what rests on entries that are firm rests on the diary, where the node's reports are of this life
+rests_on_diary : {S : Type 0} (view : View) (told : List Statement) (n : Node S) (first later d : List LogEntry) (message : Message) → IsSound told view n → IsSoundBook n.secret told view first → d ≡ first ++ later
+    → take n.firm n.entries ≡ cut_at n.opening first ++ later → (0 < n.opening → HasMade first n.opening) → n.restored ≡ length (cut_at n.opening first)
+    → AllPast view.number (take n.restored n.entries) message → RestsOn (take n.firm n.entries) message → RestsOn d message
+rests_on_diary {S = S} view told n [] later d message is book both firm made count past rests =
+    subst (λ (es : List LogEntry). RestsOn es message) (firm ∙ (ap (λ (es : List LogEntry). es ++ later) (none n.opening (λ some. (made some).there)) ∙ sym both)) rests
+  where
+    none : (k : ℕ) → (0 < k → ⊥) → cut_at k [] ≡ []
+    none zero low = refl
+    none (suc k) low = absurd (low (omega arith))
+rests_on_diary {S = S} view told n (e ∷ es) later d message is book both firm made count past rests =
+    let first : List LogEntry = e ∷ es in
+    let cut : List LogEntry = cut_at n.opening (e ∷ es) in
+    let rest : List LogEntry = drop n.firm n.entries in
+    let entries : n.entries ≡ cut ++ (later ++ rest) =
+    sym (take-append-drop n.firm n.entries) ∙ (ap (λ (xs : List LogEntry). xs ++ rest) firm ∙ append_assoc cut later rest) in
+    let whole : Lawful 0 0 (first ++ (later ++ rest)) = (sound_written told view n (e ∷ es) (later ++ rest) is book entries made (λ none. absurd cc)).lawful in
+    let lawful : Lawful 0 0 (first ++ later) = front_lawful 0 0 (first ++ later) rest (subst (λ (xs : List LogEntry). Lawful 0 0 xs) (sym (append_assoc first later rest)) whole) in
+    let restored : take n.restored n.entries ≡ cut =
+    ap (λ (k : ℕ). take k n.entries) count ∙ (ap (λ (xs : List LogEntry). take (length cut) xs) entries ∙ take-append_seam cut (later ++ rest)) in
+    subst (λ (xs : List LogEntry). RestsOn xs message) (sym both)
+    (each_both (λ (s : Statement). IsPast view.number cut s) (IsShown digest_of (cut ++ later)) (IsShown digest_of (first ++ later))
+    (λ s late is. shown_in_whole n.secret told view n.opening (e ∷ es) later s book made lawful late is) (says.own message)
+    (subst (λ (xs : List LogEntry). AllPast view.number xs message) restored past) (subst (λ (xs : List LogEntry). RestsOn xs message) firm rests))
+
+-- what leaves rests on it
+leaving_borne : {S : Type 0} (m : Meaning S) (view : View) (h : Host S) (event : NodeEvent) → is_view view ≡ true → Later h.node (step_of m h.node event).node → h.node.firm ≤ length h.node.entries → GoesWell view h
+    → Each (λ x. IsOwn (step_of m h.node event).node.id x.to x.message × RestsOn (host_after (course_of m) h (step_of m h.node event)).life.diary x.message) (leaving (step_of m h.node event).node.firm (step_of m h.node event).node.held)
+leaving_borne {S = S} m view h event viewed l low is =
+    let n : Node S = h.node in
+    let n' : Node S = (step_of m h.node event).node in
+    let after : Host S = host_after (course_of m) h (step_of m h.node event) in
+    let told : List Statement = is.told ++ told_by n.secret event in
+    let more : AreAmong is.told told = among-all is.told told (λ x there. among_left x is.told (told_by n.secret event) there) in
+    let sound : IsSound told view n' = sound_step m told view n event viewed (sound_more is.told told more view n is.sound) (told_event n.secret is.told event) in
+    let well : GoesWell view after = well-after m view h event viewed l low is in
+    let late : HeldLate view.number n' = late-step m view.number n event is.past in
+    let new : List LogEntry = from_to n.firm n'.firm n'.entries in
+    let opening : n'.opening ≡ n.opening = opening-step m n event in
+    let old : take n.firm n'.entries ≡ take n.firm n.entries =
+    ap (λ (es : List LogEntry). take n.firm es) l.front.is ∙ take-append-le n.firm n.entries l.front.rest low in
+    let firm : take n'.firm n'.entries ≡ cut_at n'.opening is.first ++ (is.later ++ new) =
+    sym (take-from n.firm n'.firm n'.entries l.more)
+    ∙ (ap (λ (es : List LogEntry). es ++ new) (old ∙ is.firm_is)
+    ∙ (append_assoc (cut_at n.opening is.first) is.later new ∙ ap (λ (k : ℕ). cut_at k is.first ++ (is.later ++ new)) (sym opening))) in
+    each_both (λ (x : Held). IsOwn n'.id x.to x.message × RestsOn (take n'.firm n'.entries) x.message) (λ (x : Held). AllPast view.number (take n'.restored n'.entries) x.message)
+    (λ (x : Held). IsOwn n'.id x.to x.message × RestsOn after.life.diary x.message)
+    (λ x right past. (
+      right.0,
+      rests_on_diary view told n' is.first (is.later ++ new) after.life.diary x.message sound
+          (subst (λ (k : List ℕ). IsSoundBook k told view is.first) (sym (secret-step m n event)) (book_more is.told told more n.secret view is.first is.first_sound))
+          (ap (λ (es : List LogEntry). es ++ new) is.both ∙ append_assoc is.first is.later new) firm
+          (subst (λ (k : ℕ). 0 < k → HasMade is.first k) (sym opening) is.first_made)
+          (restored-step m n event ∙ (is.first_is ∙ ap (λ (k : ℕ). length (cut_at k is.first)) (sym opening))) past right.1,
+    ))
+    (leaving n'.firm n'.held) (leaving_rest n'.id n'.firm n'.entries n'.held l.rests.held)
+    (each-leaving (λ (x : Held). AllPast view.number (take n'.restored n'.entries) x.message) n'.firm n'.held late.late)
 
 -- a node's step
 borne-event : {S : Type 0} (m : Meaning S) (w : World S) (i : ℕ) (h : Host S) (event : NodeEvent) → h.up ≡ true → slice_get w.hosts i ≡ Some h → IsTold h event → Borne w
@@ -189,31 +337,50 @@ borne-event {S = S} m w i h event up at told is =
     let h' : Host S = host_after (course_of m) h o in
     let rests : HostRests w.view h = each_get (HostRests w.view) w.hosts i h is.hosts at in
     let later : Later h.node o.node = later-step m w.view h event up told rests in
-    let new : HostRests w.view h' = rests-after m w.view h event up later rests in
+    let new : HostRests w.view h' = rests-after m w.view h event is.viewed up later rests in
     let b : Borne (with_host w i h') = borne-with w i h h' at later.id (longer-append h.life.diary (from_to h.node.firm o.node.firm o.node.entries)) new is in
     borne-sends_all h.node.id (view_of o.node) _ (leaving o.node.firm o.node.held) new.view_is
-    (each-weaken (λ (x : Held). IsOwn o.node.id x.to x.message × RestsOn (take o.node.firm o.node.entries) x.message)
+    (each-weaken (λ (x : Held). IsOwn o.node.id x.to x.message × RestsOn h'.life.diary x.message)
     (LeavesRight h.node.id (slice_set w.hosts i h'))
     (λ x right. (
       subst (λ (k : ℕ). IsOwn k x.to x.message) later.id right.0,
-      borne_here h.node.id (contents.Message x.message) w.hosts i h h' at (record { member = later.id; rested = subst (λ (es : List LogEntry). RestsOn es x.message) (sym (new.diary up)) right.1 }),
+      borne_here h.node.id (contents.Message x.message) w.hosts i h h' at (record { member = later.id; rested = right.1 }),
     ))
-    (leaving o.node.firm o.node.held) (leaving_rest o.node.id o.node.firm o.node.entries o.node.held later.rests.held))
-    (record { hosts = b.hosts; sent = record { own = b.sent.own; borne = b.sent.borne } })
+    (leaving o.node.firm o.node.held) (leaving_borne m w.view h event is.viewed later rests.low (rests.well up)))
+    (record { viewed = b.viewed; hosts = b.hosts; sent = record { own = b.sent.own; borne = b.sent.borne } })
 
 -- the store of a host makes a call
 borne-called : {S : Type 0} (m : Meaning S) (w : World S) (i : ℕ) (h : Host S) → slice_get w.hosts i ≡ Some h → Borne w → Borne (called (course_of m) w i h)
 borne-called m w i h at is =
     let rests = each_get (HostRests w.view) w.hosts i h is.hosts at in
     borne-with w i h (after_call (course_of m) h) at refl (record { more = []; split = sym (append-nil h.life.diary) })
-    (record { view_is = rests.view_is; rests = rests.rests; stored = λ up. fits-called h.node h.store (rests.stored up); diary = rests.diary; low = rests.low }) is
+    (record {
+      view_is = rests.view_is;
+      rests = rests.rests;
+      well = λ up.
+          let g : GoesWell w.view h = rests.well up in
+          record {
+            stored = stored-called h g.stored;
+            told = g.told;
+            sound = g.sound;
+            first = g.first;
+            later = g.later;
+            both = g.both;
+            firm_is = g.firm_is;
+            first_sound = g.first_sound;
+            first_made = g.first_made;
+            first_is = g.first_is;
+            past = g.past;
+          };
+      low = rests.low;
+    }) is
 
 -- a member crashes
 borne-crashed : {S : Type 0} (m : Meaning S) (w : World S) (i : ℕ) (h : Host S) (left : Images) → slice_get w.hosts i ≡ Some h → Borne w → Borne (with_host w i (host_crashed (course_of m) h left))
 borne-crashed m w i h left at is =
     let rests = each_get (HostRests w.view) w.hosts i h is.hosts at in
-    borne-with w i h (host_crashed (course_of m) h left) at refl (longer-append h.life.diary (drop (length h.life.diary) (take (length (restores left).entries) (book_left h))))
-    (record { view_is = rests.view_is; rests = rests.rests; stored = λ up. absurd (apart up); diary = λ up. absurd (apart up); low = rests.low }) is
+    borne-with w i h (host_crashed (course_of m) h left) at refl (longer-append h.life.diary (drop (length h.life.diary) (take (count_kept left (book_left h)) (book_left h))))
+    (record { view_is = rests.view_is; rests = rests.rests; well = λ up. absurd (apart up); low = rests.low }) is
   where
     apart : false ≡ true → ⊥
     apart same = cc
@@ -223,79 +390,139 @@ pub keeps-borne : {S : Type 0} (m : Meaning S) → Keeps (course_of m) Borne
 unfolding hearing
 keeps-borne m =
     record {
-      event = λ w i h event up at may is. borne-event m w i h event up.0 at (may-told w h event may) is;
+      event = λ w i h event up at may is. borne-event m w i h event up.0 at (may-told w h event may.come) is;
       disk = λ w i h up at is. borne-called m w i h at is;
       crash = λ w i h left up at may is. borne-crashed m w i h left at is;
-      hear = λ w i c x a at has read is. record { hosts = is.hosts; sent = record { own = is.sent.own; borne = is.sent.borne } };
+      hear = λ w i c x a at has read is. record { viewed = is.viewed; hosts = is.hosts; sent = record { own = is.sent.own; borne = is.sent.borne } };
       ask = λ w i c op at free few brief is.
           borne-posts (asked_by w i c op) (from_client w.view c (ask_of c op)) (record { addressed = refl; own = refl }) tt
-          (record { hosts = is.hosts; sent = record { own = is.sent.own; borne = is.sent.borne } });
+          (record { viewed = is.viewed; hosts = is.hosts; sent = record { own = is.sent.own; borne = is.sent.borne } });
       again = λ w i c q at waits is. borne-posts w (from_client w.view c (signed_by c q)) (record { addressed = refl; own = refl }) tt is;
-      learn = λ w i j c d at other is. record { hosts = is.hosts; sent = record { own = is.sent.own; borne = is.sent.borne } };
+      learn = λ w i j c d at other is. record { viewed = is.viewed; hosts = is.hosts; sent = record { own = is.sent.own; borne = is.sent.borne } };
       inject = λ w x read fine is. borne-posts w (from_script x) refl tt is;
-      declare = λ w faulty rogue ending how is. record { hosts = is.hosts; sent = record { own = is.sent.own; borne = is.sent.borne } };
-      same = λ w mark told is. record { hosts = is.hosts; sent = record { own = is.sent.own; borne = is.sent.borne } };
+      declare = λ w faulty rogue ending how is. record { viewed = is.viewed; hosts = is.hosts; sent = record { own = is.sent.own; borne = is.sent.borne } };
+      same = λ w mark told is. record { viewed = is.viewed; hosts = is.hosts; sent = record { own = is.sent.own; borne = is.sent.borne } };
+      meet = λ w texts on is. record { viewed = is.viewed; hosts = is.hosts; sent = record { own = is.sent.own; borne = is.sent.borne } };
     }
 
 borne-live : {S : Type 0} (m : Meaning S) → KeepsCalm (course_of m) Borne
 borne-live m = calm (course_of m) Borne (live (course_of m) Borne (keeps-borne m))
 
+-- a sound node that holds nothing rests on its book
+rests-sound : {S : Type 0} (told : List Statement) (view : View) (n : Node S) → IsSound told view n → n.held ≡ [] → NodeRests n
+rests-sound told view n is none = record {
+  held = subst (λ (hs : List Held). Each (HoldsRight n.id n.entries) hs) (sym none) tt;
+  waits = decided n.waiting is.waiting;
+  lines = is.table;
+}
+  where
+    decided : (waiting : Option Batch) → IfSome waiting (sounds.HasDecided n.entries (next_place n)) → IfSome waiting (HasDecided n.entries (next_place n))
+    decided None has = tt
+    decided (Some batch) has = record { decision = has.decision; there = has.there; place_is = has.place_is; batch_is = has.batch_is }
+
 -- a node goes on from a diary that is right
-borne-resumed : {S : Type 0} (m : Meaning S) (w : World S) (i : ℕ) (h : Host S) → IsDown w h → slice_get w.hosts i ≡ Some h → ChosenRight m w → Borne w
+borne-resumed : {S : Type 0} (m : Meaning S) → IsRestorable m → (w : World S) (i : ℕ) (h : Host S) → IsDown w h → slice_get w.hosts i ≡ Some h → ChosenRight m w → Borne w
     → Borne (with_host w i (host_resumed h (node_resumed (course_of m) w h)))
-borne-resumed {S = S} m w i h down at r is =
-    let right : HostRight w.sent m w.view w.chosen h = host-right m w i h at r in
+borne-resumed {S = S} m service w i h down at r is =
     let n : Node S = node_resumed (course_of m) w h in
-    let next : HostRight w.sent m w.view w.chosen (host_resumed h n) = resumed-right m w i h down.0 at r in
-    let by = named m group_secret h.node.id w.view period (entries_in (entries_left h)) in
-    borne-with w i h (host_resumed h n) at by.name (record { more = []; split = sym (append-nil h.life.diary) })
+    let h' : Host S = host_resumed h n in
+    let hr : HostRight w.sent m w.view w.chosen h = left_host m service w i h down.0 at r in
+    let s : Stopped hr.all hr.past h = stopped_host m service w i h down.0 at r in
+    let next : HostRight w.sent m w.view w.chosen h' = resumed-right m service w i h down.0 at r in
+    let on = resumed_on m service w i h down.0 at r in
+    let run : Running next.all next.past h' = next.lasts.up refl in
+    let low = next.lasts.low in
+    let old = run.old in
+    borne-with w i h h' at on.name (record { more = []; split = sym (append-nil h.life.diary) })
     (record {
       view_is = ap present next.sound.views;
-      rests = subst (λ (es : List LogEntry). NodeRests (reopened m (outset_of m w.view h.node.id) es)) (sym (resumes-diary m w i h at down.0 r))
-          (rests_reopened m group_secret h.node.id (stated w.sent) w.view period h.life.diary right.diary.sound);
-      stored = next.stored;
-      diary = next.lasts.up;
+      rests = rests-sound (stated w.sent) w.view n next.sound (from_held m group_secret h.node.id w.view w.period (parts_held h));
+      well = λ up. record {
+        stored = record {
+          fits = fits_now next.all next.past h' refl next.lasts;
+          begun = run.begun;
+          last = subst (λ (t : StoreState). LastFits t.restored (length n.entries) t.ending) (sym s.opened) tt;
+        };
+        told = stated w.sent;
+        sound = next.sound;
+        first = run.first;
+        later = run.later;
+        both = run.both;
+        firm_is = firm_parts n run.first run.later h.life.diary run.both run.diary run.first_made;
+        first_sound = subst (λ (k : List ℕ). IsSoundBook k (stated w.sent) w.view run.first) (sym next.shared)
+            (front_of group_secret (stated w.sent) w.view run.first run.later (subst (λ (es : List LogEntry). IsSoundBook group_secret (stated w.sent) w.view es) run.both next.diary.sound));
+        first_made = run.first_made;
+        first_is = run.first_is;
+        past = late-none w.view.number n (ap (λ (vs : List View). (present vs).number) next.sound.views) (omega (arith, low, old)) (from_held m group_secret h.node.id w.view w.period (parts_held h));
+      };
       low = next.lasts.low;
     }) is
 
 -- the list is right, and what was sent rests on entries that became firm
-pub right-borne : {S : Type 0} (m : Meaning S) → IsBrief m → KeepsAll (course_of m) (λ w. ChosenRight m w × Borne w)
-right-borne m brief =
+pub right-borne : {S : Type 0} (m : Meaning S) → IsBrief m → IsRestorable m → KeepsAll (course_of m) (λ w. ChosenRight m w × Borne w)
+right-borne m brief service =
     record {
-      kept = keeps-both (course_of m) (ChosenRight m) Borne (chosen-kept m brief).kept (keeps-borne m);
-      resume = λ w i h down at is. ((chosen-kept m brief).resume w i h down at is.0, borne-resumed m w i h down at is.0 is.1);
+      kept = keeps-both (course_of m) (ChosenRight m) Borne (chosen-kept m brief service).kept (keeps-borne m);
+      resume = λ w i h down at is. ((chosen-kept m brief service).resume w i h down at is.0, borne-resumed m service w i h down at is.0 is.1);
     }
 
 -- the worlds of a play
 
 -- hosts that have just opened rest
-hosts_rest : {S : Type 0} (m : Meaning S) (view : View) (ids : List ℕ) → Each (HostRests view) (hosts_from m view ids)
-hosts_rest m view [] = tt
-hosts_rest m view (id ∷ ids) = (
-  record { view_is = refl; rests = rests-opened m group_secret id view period; stored = λ up. fits-opened m group_secret id view period; diary = λ up. refl; low = omega arith },
-  hosts_rest m view ids,
-)
+hosts_rest : {S : Type 0} (m : Meaning S) (view : View) (period : ℕ) (ids : List ℕ) → Each (HostRests view) (hosts_from m view period ids)
+hosts_rest m view period [] = tt
+hosts_rest m view period (id ∷ ids) = (opened_rests m view period id, hosts_rest m view period ids)
+  where
+    opened_rests : {S : Type 0} (m : Meaning S) (view : View) (period : ℕ) (id : ℕ) → HostRests view (host_of_node (opened (outset_of m view period id)))
+    opened_rests {S = S} m view period id =
+        let n : Node S = opened (outset m group_secret id view period) in
+        let sound : IsSound [] view n = sound_opened m group_secret id view period in
+        record {
+          view_is = refl;
+          rests = rests-opened m group_secret id view period;
+          well = λ up. record {
+            stored = stored-opened m group_secret id view period;
+            told = [];
+            sound = sound;
+            first = [];
+            later = [];
+            both = refl;
+            firm_is = refl;
+            first_sound = front_sound group_secret [] view n.entries 0 (book_sound [] view n sound refl);
+            first_made = λ some. absurd (omega (arith, some));
+            first_is = refl;
+            past = late-none view.number n refl (omega arith) refl;
+          };
+          low = omega arith;
+        }
 
 -- at the beginning
-pub borne-begun : {S : Type 0} (m : Meaning S) (view : View) → Borne (begun m view)
-borne-begun m view = record { hosts = hosts_rest m view view.members; sent = record { own = tt; borne = tt } }
+pub borne-begun : {S : Type 0} (m : Meaning S) (g : Header) → IsHeader g → Borne (begun m g)
+borne-begun m g is = record { viewed = is.viewed; hosts = hosts_rest m g.view g.period g.view.members; sent = record { own = tt; borne = tt } }
 
 -- after any lines
-pub right_borne-after : {S : Type 0} (m : Meaning S) → IsBrief m → (view : View) (ls : List Line) → is_view view ≡ true → ChosenRight m (world_after (course_of m) (begun m view) ls) × Borne (world_after (course_of m) (begun m view) ls)
-right_borne-after m brief view ls is = keeps-world_after (course_of m) (λ w. ChosenRight m w × Borne w) (right-borne m brief) (begun m view) ls (chosen-begun m view is, borne-begun m view)
+pub right_borne-after : {S : Type 0} (m : Meaning S) → IsBrief m → IsRestorable m → (g : Header) (ls : List Line) → IsHeader g → ChosenRight m (world_after (course_of m) (begun m g) ls) × Borne (world_after (course_of m) (begun m g) ls)
+right_borne-after m brief service g ls is = keeps-world_after (course_of m) (λ w. ChosenRight m w × Borne w) (right-borne m brief service) (begun m g) ls (chosen-begun m g is, borne-begun m g is)
 
 -- so all that was sent is read
-pub genuine-after : {S : Type 0} (m : Meaning S) → IsBrief m → (view : View) (ls : List Line) → is_view view ≡ true → AllGenuine (world_after (course_of m) (begun m view) ls)
-genuine-after m brief view ls is = all_genuine (world_after (course_of m) (begun m view) ls) (right_borne-after m brief view ls is).0.0.0.fit
+pub genuine-after : {S : Type 0} (m : Meaning S) → IsBrief m → IsRestorable m → (g : Header) (ls : List Line) → IsHeader g → AllGenuine (world_after (course_of m) (begun m g) ls)
+genuine-after m brief service g ls is = all_genuine (world_after (course_of m) (begun m g) ls) (right_borne-after m brief service g ls is).0.0.0.fit
 
-borne-after : {S : Type 0} (m : Meaning S) → IsBrief m → (view : View) (ls : List Line) → is_view view ≡ true → Borne (world_after (course_of m) (begun m view) ls)
-borne-after m brief view ls is = (right_borne-after m brief view ls is).1
+borne-after : {S : Type 0} (m : Meaning S) → IsBrief m → IsRestorable m → (g : Header) (ls : List Line) → IsHeader g → Borne (world_after (course_of m) (begun m g) ls)
+borne-after m brief service g ls is = (right_borne-after m brief service g ls is).1
+
+-- the text that bytes complete is met, and a host takes them
+borne-takes_met : {S : Type 0} (m : Meaning S) (i : ℕ) (bytes : List ℕ) (w : World S) (h : Host S) → h.up ≡ true → slice_get w.hosts i ≡ Some h → Borne w → Borne (takes_met (course_of m) i (Arrive bytes) w h)
+borne-takes_met {S = S} m i bytes w h up at is =
+    let v : World S = meets w (completed_by h.node (Arrive bytes)) in
+    let met : Borne v = record { viewed = is.viewed; hosts = is.hosts; sent = record { own = is.sent.own; borne = is.sent.borne } } in
+    either (λ (u : World S). Borne u) (is_halted v) v _ met (borne-event m v i h (Arrive bytes) up at tt met)
 
 -- a host that is found takes bytes
 borne-host_takes : {S : Type 0} (m : Meaning S) (i : ℕ) (bytes : List ℕ) (w : World S) (found : Option (Host S)) → slice_get w.hosts i ≡ found → Borne w → Borne (host_takes (course_of m) i (Arrive bytes) w found)
 borne-host_takes m i bytes w None at is = is
 borne-host_takes {S = S} m i bytes w (Some h) at is =
-    either_by (λ (v : World S). Borne v) (not (is_up w h)) w _ (λ down. is) (λ up. borne-event m w i h (Arrive bytes) (is-up w h (not_false (is_up w h) up)).0 at tt is)
+    either_by (λ (v : World S). Borne v) (not (is_up w h)) w _ (λ down. is) (λ up. borne-takes_met m i bytes w h (is-up w h (not_false (is_up w h) up)).0 at is)
 
 -- a node takes bytes
 borne-node_takes : {S : Type 0} (m : Meaning S) (i : ℕ) (bytes : List ℕ) (w : World S) → Borne w → Borne (node_takes (course_of m) i (Arrive bytes) w)
@@ -310,8 +537,8 @@ borne-gives m bytes i w is = live-settle (course_of m) Borne (borne-live m) i (n
 -- a client hears what bytes are read as
 borne-client_hears : {S : Type 0} (w : World S) (i : ℕ) (c : Client) (read : Option (SignedBy Answer)) → Borne w → Borne (client_hears w i c read)
 unfolding hearing
-borne-client_hears w i c None is = record { hosts = is.hosts; sent = record { own = is.sent.own; borne = is.sent.borne } }
-borne-client_hears w i c (Some a) is = record { hosts = is.hosts; sent = record { own = is.sent.own; borne = is.sent.borne } }
+borne-client_hears w i c None is = record { viewed = is.viewed; hosts = is.hosts; sent = record { own = is.sent.own; borne = is.sent.borne } }
+borne-client_hears w i c (Some a) is = record { viewed = is.viewed; hosts = is.hosts; sent = record { own = is.sent.own; borne = is.sent.borne } }
 
 borne-hears_bytes : {S : Type 0} (w : World S) (i : ℕ) (bytes : List ℕ) (found : Option Client) → Borne w → Borne (hears_bytes w i bytes found)
 borne-hears_bytes w i bytes None is = is
@@ -331,25 +558,25 @@ borne-turns : {S : Type 0} (m : Meaning S) (i k : ℕ) (w : World S) → Borne w
 borne-turns m i k w is = repeated_keeps Borne (settle_once (course_of m) i) (live-settle_once (course_of m) Borne (borne-live m) i) k w is
 
 -- as a flow begins
-pub firm-first : {S : Type 0} (m : Meaning S) → IsBrief m → (view : View) → is_view view ≡ true → (ls : List Line) (members : List ℕ) (nodes i k : ℕ)
-    → SentFirm (repeated (settle_once (course_of m) i) k (flow_begins m view ls members nodes))
-firm-first m brief view is ls members nodes i k =
-    (borne-turns m i k (flow_begins m view ls members nodes)
-    (each_from_keeps Borne (at_listed members (settles_present m members)) (at_listed-keeps Borne members (settles_present m members) (live-settles_present (course_of m) Borne (borne-live m) members)) nodes 0 (world_after (course_of m) (begun m view) ls) (borne-after m brief view ls is))).sent
+pub firm-first : {S : Type 0} (m : Meaning S) → IsBrief m → IsRestorable m → (g : Header) → IsHeader g → (ls : List Line) (members : List ℕ) (nodes i k : ℕ)
+    → SentFirm (repeated (settle_once (course_of m) i) k (flow_begins m g ls members nodes))
+firm-first m brief service g is ls members nodes i k =
+    (borne-turns m i k (flow_begins m g ls members nodes)
+    (each_from_keeps Borne (at_listed members (settles_present m members)) (at_listed-keeps Borne members (settles_present m members) (live-settles_present (course_of m) Borne (borne-live m) members)) nodes 0 (world_after (course_of m) (begun m g) ls) (borne-after m brief service g ls is))).sent
 
 -- after some turns of it
-borne-flow : {S : Type 0} (m : Meaning S) → IsBrief m → (view : View) → is_view view ≡ true → (ls : List Line) (members : List ℕ) (turn : ℕ) → Borne (flow_goes m view ls members turn)
-borne-flow {S = S} m brief view is ls members turn =
-    let w : World S = world_after (course_of m) (begun m view) ls in
-    repeated_keeps Borne (flow_once (course_of m) members) (live-flow_once (course_of m) Borne (borne-live m) members) turn (settle_all (course_of m) members w) (live-settle_all (course_of m) Borne (borne-live m) members w (borne-after m brief view ls is))
+borne-flow : {S : Type 0} (m : Meaning S) → IsBrief m → IsRestorable m → (g : Header) → IsHeader g → (ls : List Line) (members : List ℕ) (turn : ℕ) → Borne (flow_goes m g ls members turn)
+borne-flow {S = S} m brief service g is ls members turn =
+    let w : World S = world_after (course_of m) (begun m g) ls in
+    repeated_keeps Borne (flow_once (course_of m) members) (live-flow_once (course_of m) Borne (borne-live m) members) turn (settle_all (course_of m) members w) (live-settle_all (course_of m) Borne (borne-live m) members w (borne-after m brief service g ls is))
 
 -- as bytes go to some parties in it, and a node takes them and goes on
-pub firm-given : {S : Type 0} (m : Meaning S) → IsBrief m → (view : View) → is_view view ≡ true → (ls : List Line) (members : List ℕ) (turn : ℕ) (bytes : List ℕ) (tos : List Party) (i k : ℕ)
-    → SentFirm (node_goes m bytes i k (message_goes m members bytes tos (flow_goes m view ls members turn)))
-firm-given {S = S} m brief view viewed ls members turn bytes tos i k =
-    let w : World S = flow_goes m view ls members turn in
-    let is : Borne w = borne-flow m brief view viewed ls members turn in
+pub firm-given : {S : Type 0} (m : Meaning S) → IsBrief m → IsRestorable m → (g : Header) → IsHeader g → (ls : List Line) (members : List ℕ) (turn : ℕ) (bytes : List ℕ) (tos : List Party) (i k : ℕ)
+    → SentFirm (node_goes m bytes i k (message_goes m members bytes tos (flow_goes m g ls members turn)))
+firm-given {S = S} m brief service g viewed ls members turn bytes tos i k =
+    let w : World S = flow_goes m g ls members turn in
+    let is : Borne w = borne-flow m brief service g viewed ls members turn in
     let given : Borne (message_goes m members bytes tos w) =
     goes-keeps (course_of m) Borne members bytes (borne-reaches m members bytes) (record w { mark = w.mark + 1 }) tos
-    (record { hosts = is.hosts; sent = record { own = is.sent.own; borne = is.sent.borne } }) in
+    (record { viewed = is.viewed; hosts = is.hosts; sent = record { own = is.sent.own; borne = is.sent.borne } }) in
     (borne-turns m i k (node_takes (course_of m) i (Arrive bytes) (message_goes m members bytes tos w)) (borne-node_takes m i bytes (message_goes m members bytes tos w) given)).sent

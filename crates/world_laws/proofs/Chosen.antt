@@ -1,83 +1,113 @@
 -- The list of chosen batches: each is certified, and every host stands along it.
-use Rattle.std.proofs.Common.{◌≡◌, ℕ, zero, suc, ◌+◌, ◌-◌, ◌^◌, ◌≤◌, ◌++◌, ◌==◌, true, false, List, [], ◌∷◌, length, ◌∙◌, sym, arith, Option, Some, None, subst, take, length-append, eqb-true, eq-eqb, ap, nat_lt}
+use Rattle.std.proofs.Common.{◌≡◌, ℕ, zero, suc, ◌+◌, ◌-◌, ◌^◌, ◌<◌, ◌≤◌, ◌++◌, ◌==◌, Bool, cond, true, false, List, [], ◌∷◌, length, ◌∙◌, sym, refl, inl, inr, arith, Option, Some, None, subst, take, length-append, eqb-true, eq-eqb, ap}
 use Rattle.std.proofs.lemmas.List.{length-take-le}
-use Rattle.std.proofs.Math.Seq.{take-append_seam}
-use Rattle.std.specs.List.{cons_option}
-use Rattle.std.specs.Prelude.{map, slice_get}
+use Rattle.std.specs.Prelude.{IfSome, map, slice_get}
 use Rattle.smart_base.specs.Lists.{Each}
 use Rattle.smart_base.specs.Views.{View, is_view}
 use Rattle.smart_statements.specs.Batches.{Batch}
 use Rattle.smart_service.specs.Services.{Meaning}
 use Rattle.vote_book.specs.declared.entry.LogEntry.{LogEntry}
-use Rattle.vote_book.specs.declared.entry.LogEntry.TheVariants.{Opened, Wrote, Accepted, Promised, Synced, Decided, Installed, Marked}
-use Rattle.replica_rules.specs.Replicas.{empty, state, executed_lines, batch_at}
+use Rattle.vote_book.specs.declared.entry.LogEntry.TheVariants.{Decided}
+use Rattle.replica_rules.specs.Replicas.{state, executed_lines, batch_at}
+use Rattle.book_laws.specs.BookCuts.{cut_at}
+use Rattle.vote_book.specs.Books.{Among, HasMade, last_made}
 use Rattle.smart_service.specs.declared.replica.Replica.{Replica}
 use Rattle.replica_rules.specs.Seals.{digest_of}
 use Rattle.node_rules.specs.declared.node.Delivery.{Delivery}
-use Rattle.node_rules.specs.Nodes.{Node, next_place}
-use Rattle.agreement_laws.specs.Fronts.{IsFront}
+use Rattle.node_rules.specs.Nodes.{Node, decided_place, next_place}
 use Rattle.agreement_laws.specs.Statements.{Statement}
 use Rattle.agreement_laws.specs.Law.{Witnessed}
 use Rattle.agreement_laws.specs.Lists.{Certified}
-use Rattle.agreement_laws.proofs.Lists.{either, either_by}
-use Rattle.agreement_laws.proofs.OneList.{one_list, certified_more, certified_end, certified_get}
+use Rattle.agreement_laws.proofs.Lists.{each_among, each_end, either, either_by, some_equal}
+use Rattle.agreement_laws.proofs.OneList.{certified_more, certified_end, certified_get}
+use Rattle.agreement_laws.proofs.Regencies.{decided_once}
+use Rattle.node_laws.proofs.Reopened.{in_turn}
+use Rattle.node_laws.specs.Restoring.{AreAlong}
+use Rattle.book_laws.proofs.Lists.{split_at}
+use Rattle.vote_book.proofs.Locks.{made_most}
+use Rattle.vote_book.specs.declared.entry.Decision.{Decision}
 use Rattle.node_laws.specs.Sound.{IsSound}
 use Rattle.node_laws.proofs.More.{sound_more}
 use Rattle.node_laws.specs.Restored.{IsSoundBook}
-use Rattle.node_laws.proofs.Restored.{book_sound, front_sound, front_decided, book_more}
+use Rattle.node_laws.proofs.Restored.{front_sound, book_more}
 use Rattle.node_laws.proofs.CertifiedBooks.{certified_book}
 use Rattle.world_rules.specs.Secrets.{group_secret}
 use Rattle.world_rules.specs.Premises.{is_among, too_many}
-use Rattle.world_rules.specs.Worlds.{Host, World, chosen_with}
+use Rattle.world_rules.specs.Worlds.{Host, World, chosen_with, host_of, written}
 use Rattle.world_laws.specs.Promises.{IsChosenAt}
 use Rattle.node_rules.specs.Deliveries.{AtPlaces}
 use Rattle.world_rules.specs.declared.message.Sent.{Sent}
-use Rattle.node_rules.specs.Reopening.{decided_of}
-use Rattle.replica_laws.specs.Books.{DeliversInOrder}
-use Rattle.replica_laws.proofs.InOrder.{from_first}
-use Rattle.replica_laws.proofs.Follows.{DecidesNext, WasDue}
+use Rattle.replica_laws.proofs.Follows.{WasDue}
 use Rattle.world_rules.specs.Stated.{stated_in, stated, diary, AreDecided}
-use Rattle.world_laws.proofs.Stores.{Fits}
 use Rattle.world_laws.proofs.Lives.{Lasts}
+use Rattle.world_laws.proofs.Snapshots.{AreRestorable, IsRestorable, IsSnapshotAt, snapshot_longer}
+use Rattle.snapshot_form.specs.Replicas.{IsOfClients, is_first_view}
+use Rattle.world_laws.proofs.Taken.{AreMarksRight}
+use Rattle.world_laws.proofs.MarksRight.{HostMarks, marks-right}
+use Rattle.world_laws.proofs.Fetching.{IsFetchMet}
+use Rattle.world_laws.proofs.Wholes.{IsAt, at_longer, decided_at, waiting_decided}
 use Rattle.world_laws.proofs.Few.{FewHost, few-sent}
-use Rattle.world_laws.proofs.Fronts.{front-same, front-append, front-length, front-get, front-take, front-batch_at, batch_at-next}
-use Rattle.world_laws.proofs.NoClash.{IsMet}
-use Rattle.world_laws.proofs.Grounded.{EntryMet, Grounded, grounded-exact}
+use Rattle.world_laws.proofs.Fronts.{front-same, front-append, front-length, front-take, front-batch_at}
+use Rattle.world_laws.proofs.NoClash.{IsMet, met-grows}
+use Rattle.world_laws.proofs.Grounded.{EntryMet, entry-weaker, Grounded, grounded-exact}
 use Rattle.world_laws.proofs.Witnessing.{HostStands, witnessing, AllShown, stated-end, stated-grows, among-all}
 use Rattle.world_laws.proofs.Unforged.{Unforged}
 use Rattle.smart_base.proofs.ViewFacts.{each-weaken}
 
--- a book from which a member may go on, which decides no more than the list has
+-- a book from which a member may go on, which makes no place past the end of the list
 pub record BookRight (sent : List Sent) (view : View) (chosen : List Batch) (es : List LogEntry) : Type 0 where
   pub sound : IsSoundBook group_secret (stated sent) view es
-  pub within : length (decided_of 0 es) ≤ length chosen
+  pub within : last_made es ≤ length chosen
+
+-- All that a node and the lives before it had written. While the node runs, that is what is written. The node's book is the cut of it at the place of the
+-- checkpoint with which this life began, 0 without one. Its replica is the state at its place of the list.
+pub record HasWritten {S : Type 0} (sent : List Sent) (m : Meaning S) (view : View) (chosen : List Batch) (h : Host S) (whole : List LogEntry) : Type 0 where
+  pub is : h.up ≡ true → whole ≡ written h
+  pub cut : h.node.entries ≡ cut_at h.node.opening whole
+  pub made : 0 < h.node.opening → HasMade whole h.node.opening
+  pub right : BookRight sent view chosen whole
+  pub met : Each (EntryMet (IsMet sent)) whole
+  pub past : h.node.opening ≤ h.node.replica.place
+  pub at : IsAt m view chosen h.node
 
 -- A host of the group whose node is sound and delivers in order, which decided no more than the list has, and delivered a batch for each place, the list's.
--- Where it runs its store fits its book; its diary and the book that it put aside are such from which it may go on.
+-- Its store was asked for snapshots of the list alone. Its diary and the book that it put aside are such from which it may go on.
 pub record HostRight {S : Type 0} (sent : List Sent) (m : Meaning S) (view : View) (chosen : List Batch) (h : Host S) : Type 0 where
   pub sound : IsSound (stated sent) view h.node
   pub shared : h.node.secret ≡ group_secret
-  pub stored : h.up ≡ true → Fits h.node h.store
-  pub lasts : Lasts h
-  pub order : DeliversInOrder m (empty m view) h.node
-  pub within : length (decided_of 0 h.node.entries) ≤ length chosen
+  -- the snapshots that its store was asked for, and how many entries cuts have left out
+  pub all : List (List ℕ)
+  pub past : ℕ
+  pub lasts : Lasts all past h
+  pub snapshots : Each (IsSnapshotAt m view chosen) all
+  pub whole : List LogEntry
+  pub wrote : HasWritten sent m view chosen h whole
   pub count : h.resumed + length h.delivered ≡ h.node.replica.place
   pub places : AtPlaces (h.resumed + 1) h.delivered
   pub agrees : Each (IsChosenAt m view chosen) h.delivered
   pub earlier : Each (IsChosenAt m view chosen) h.earlier
   pub diary : BookRight sent view chosen h.life.diary
   pub aside : BookRight sent view chosen h.life.aside
-  pub few : FewHost sent h
+  pub few : FewHost sent whole h
 
 -- a world in which all hosts are right, each member has one host, each chosen batch is certified, few are faulty, and what has been stated is shown
 pub record WorldRight {S : Type 0} (m : Meaning S) (w : World S) : Type 0 where
   pub right : Each (HostRight w.sent m w.view w.chosen) w.hosts
   pub ids : map (λ h. h.node.id) w.hosts ≡ w.view.members
   pub viewed : is_view w.view ≡ true
+  pub period_fits : w.period < 2 ^ 32
   pub certified : AreDecided (stated w.sent) w.view w.chosen
   pub few : too_many w.view w.faulty ≡ false
   pub shown : AllShown w.faulty (stated w.sent) w.hosts
+  -- restarts over snapshots of the list rest on these
+  pub begins : is_first_view w.view ≡ true
+  pub low : length w.chosen < 2 ^ 63
+  pub of : Each IsOfClients w.chosen
   pub short : length w.sent ≤ 2 ^ 24
+  -- while nothing has ended the play, each mark of a host is of a state of the list, whose snapshot was met, and the joined text of a plan whose parts
+  -- are all there was met
+  pub marks : w.ending ≡ None → Each (HostMarks m w.view w.chosen w.sent w.marked) w.hosts
+  pub fetched : w.ending ≡ None → Each (λ (h : Host S). IsFetchMet w.sent w.marked h.node.fetch) w.hosts
 
 -- all batches were met, and are one where their digests are; what was sent is read, and is not forged
 abbrev pub Based : {S : Type 0} → Meaning S → World S → Type 0
@@ -85,6 +115,10 @@ Based m w = Grounded m w × Unforged w
 
 abbrev pub ChosenRight : {S : Type 0} → Meaning S → World S → Type 0
 ChosenRight m w = Based m w × WorldRight m w
+
+-- what restarts over snapshots of its list rest on
+pub are_restorable : {S : Type 0} (m : Meaning S) (w : World S) → IsRestorable m → WorldRight m w → AreRestorable m w.view w.chosen
+are_restorable m w service r = record { service = service; viewed = r.viewed; begins = r.begins; low = r.low; of = r.of }
 
 -- the list with the batch that waits at a node
 
@@ -95,41 +129,44 @@ chosen-front chosen place (Some batch) =
     either (λ (c : List Batch). take (length chosen) c ≡ chosen) (place == length chosen + 1) (chosen ++ batch ∷ []) chosen
     (front-append chosen chosen (batch ∷ []) (front-same chosen)) (front-same chosen)
 
--- a node that steps has decided no more than the list that it extends has
-pub within-step : {S : Type 0} (m : Meaning S) (view : View) (chosen : List Batch) (n n' : Node S) (waiting : Option Batch) → n'.waiting ≡ waiting → DecidesNext 0 n n' → DeliversInOrder m (empty m view) n'
-    → length (decided_of 0 n.entries) ≤ length chosen → length (decided_of 0 n'.entries) ≤ length (chosen_with chosen (next_place n') waiting)
-within-step m view chosen n n' None at next d le = omega (arith, next.rest at, le)
-within-step m view chosen n n' (Some batch) at next d le =
-    let full : length (decided_of 0 n'.entries) ≡ n'.replica.place + 1 = rw at at (from_first m view n' d).count in
-    either_by (λ (c : List Batch). length (decided_of 0 n'.entries) ≤ length c) (next_place n' == length chosen + 1) (chosen ++ batch ∷ []) chosen
-    (λ is. omega (arith, full, eqb-true (next_place n') (length chosen + 1) is, length-append chosen (batch ∷ [])))
-    (λ isnt. less (length (decided_of 0 n'.entries)) (length chosen) (omega (arith, next.most, le)) (λ e. differ (next_place n') (length chosen + 1) isnt (sym full ∙ e)))
+-- a node that is at a place of the list has decided no more than the list that it extends has
+pub within-step : {S : Type 0} (chosen : List Batch) (n' : Node S) (waiting : Option Batch) → n'.waiting ≡ waiting → n'.replica.place ≤ length chosen
+    → decided_place n' ≤ length (chosen_with chosen (next_place n') waiting)
+within-step chosen n' None at reached = let same : decided_place n' ≡ n'.replica.place = rw at refl in omega (arith, same, reached)
+within-step chosen n' (Some batch) at reached =
+    let same : decided_place n' ≡ n'.replica.place + 1 = rw at refl in
+    either_by (λ (c : List Batch). decided_place n' ≤ length c) (next_place n' == length chosen + 1) (chosen ++ batch ∷ []) chosen
+    (λ is. let next = eqb-true (next_place n') (length chosen + 1) is in let long = length-append chosen (batch ∷ []) in omega (arith, same, next, long))
+    (λ isnt. less n'.replica.place (length chosen) (decided_place n') same reached (λ e. differ (next_place n') (length chosen + 1) isnt e))
   where
     differ : (a b : ℕ) → (a == b) ≡ false → a ≡ b → ⊥
     differ a b isnt e = let is = eq-eqb a b e in absurd (cc)
 
-    less : (a b : ℕ) → a ≤ b + 1 → (a ≡ b + 1 → ⊥) → a ≤ b
-    less a b most not_next = omega (arith, most, not_next)
+    less : (a b d : ℕ) → d ≡ a + 1 → a ≤ b → (a + 1 ≡ b + 1 → ⊥) → d ≤ b
+    less a b d is most not_next = omega (arith, is, most, not_next)
 
--- what stands at an index stands within the list
-get_low : (list : List Batch) (k : ℕ) (batch : Batch) → slice_get list k ≡ Some batch → k ≤ length list
-get_low [] k batch at = absurd (cc)
-get_low (b ∷ bs) zero batch at = omega arith
-get_low (b ∷ bs) (suc k) batch at = omega (arith, get_low bs k batch at)
-
--- the list with the batch that waits is decided
-pub certified-step : {S : Type 0} (T : List Statement) (m : Meaning S) (view : View) (chosen : List Batch) (n : Node S) (waiting : Option Batch) → n.waiting ≡ waiting → DeliversInOrder m (empty m view) n
-    → AreDecided T view (decided_of 0 n.entries) → AreDecided T view chosen → AreDecided T view (chosen_with chosen (next_place n) waiting)
-certified-step T m view chosen n None at d own all = all
-certified-step T m view chosen n (Some batch) at d own all =
-    let ds : List Batch = decided_of 0 n.entries in
-    let there : slice_get ds n.replica.place ≡ Some batch = sym (from_first m view n d).waiting ∙ at in
-    let long : length (take n.replica.place ds) ≡ n.replica.place = length-take-le n.replica.place ds (get_low ds n.replica.place batch there) in
-    let c : Certified group_secret T view (length (take n.replica.place ds) + 1) (digest_of batch) = certified_get group_secret digest_of (λ front. view) T [] ds n.replica.place batch own there in
+-- the list with the batch that waits is decided, if that batch is certified for its place
+pub certified-step : {S : Type 0} (T : List Statement) (view : View) (chosen : List Batch) (n : Node S) (waiting : Option Batch)
+    → IfSome waiting (λ (batch : Batch). Certified group_secret T view (next_place n) (digest_of batch)) → AreDecided T view chosen → AreDecided T view (chosen_with chosen (next_place n) waiting)
+certified-step T view chosen n None own all = all
+certified-step T view chosen n (Some batch) own all =
     either_by (λ (bs : List Batch). AreDecided T view bs) (next_place n == length chosen + 1) (chosen ++ batch ∷ []) chosen
     (λ is. certified_end group_secret digest_of (λ front. view) T [] chosen batch all
-    (subst (λ (k : ℕ). Certified group_secret T view k (digest_of batch)) (ap (λ (k : ℕ). k + 1) long ∙ eqb-true (next_place n) (length chosen + 1) is) c))
+    (subst (λ (k : ℕ). Certified group_secret T view k (digest_of batch)) (eqb-true (next_place n) (length chosen + 1) is) own))
     (λ isnt. all)
+
+-- it stays short, if the next place is low
+pub low-step : {S : Type 0} (chosen : List Batch) (n : Node S) (waiting : Option Batch) → IfSome waiting (λ (batch : Batch). next_place n < 2 ^ 63) → length chosen < 2 ^ 63
+    → length (chosen_with chosen (next_place n) waiting) < 2 ^ 63
+low-step chosen n None few low = low
+low-step chosen n (Some batch) few low =
+    either_by (λ (bs : List Batch). length bs < 2 ^ 63) (next_place n == length chosen + 1) (chosen ++ batch ∷ []) chosen
+    (λ is. let same = eqb-true (next_place n) (length chosen + 1) is in let longer = length-append chosen (batch ∷ []) in omega (arith, same, longer, few)) (λ isnt. low)
+
+-- what holds of a batch that waits and of each of the list, holds of each of that
+pub each-step : {S : Type 0} (P : Batch → Type 0) (chosen : List Batch) (n : Node S) (waiting : Option Batch) → IfSome waiting P → Each P chosen → Each P (chosen_with chosen (next_place n) waiting)
+each-step P chosen n None own all = all
+each-step P chosen n (Some batch) own all = either (λ (bs : List Batch). Each P bs) (next_place n == length chosen + 1) (chosen ++ batch ∷ []) chosen (each_end P chosen batch all own) all
 
 -- what has been stated in a right world
 
@@ -140,54 +177,79 @@ right-witnessed {S = S} m w r =
     (each-weaken (HostRight w.sent m w.view w.chosen) (HostStands (stated w.sent) w.view) (λ h right. record { lawful = right.diary.sound.lawful; backed = right.diary.sound.backed }) w.hosts r.right)
     r.ids r.shown
 
--- the batches that a book has decided were met
-pub decided-met : (M : Batch → Type 0) (es : List LogEntry) → Each (EntryMet M) es → Each M (decided_of 0 es)
-decided-met M [] each = tt
-decided-met M (Opened o ∷ es) each = decided-met M es each.1
-decided-met M (Wrote w ∷ es) each = decided-met M es each.1
-decided-met M (Accepted a ∷ es) each = decided-met M es each.1
-decided-met M (Promised p ∷ es) each = decided-met M es each.1
-decided-met M (Synced s ∷ es) each = decided-met M es each.1
-decided-met M (Decided d ∷ es) each =
-    let rest = decided-met M es each.1 in
-    either (λ (o : Option Batch). Each M (cons_option o (decided_of 0 es))) (nat_lt 0 d.slot.place) (Some d.batch) None (each.0, rest) rest
-decided-met M (Installed i ∷ es) each = decided-met M es each.1
-decided-met M (Marked m ∷ es) each = decided-met M es each.1
+-- so all marks of diaries are
+each_found : {S : Type 0} (P : Host S → Type 0) (hosts : List (Host S)) (member : ℕ) (h : Host S) → Each P hosts → host_of hosts member ≡ Some h → P h
+each_found P [] member h each at = absurd (cc)
+each_found {S = S} P (x ∷ xs) member h each at = by (x.node.id == member) at (λ later. each_found P xs member h each.1 later)
+  where
+    by : (t : Bool) → cond t (Some x) (host_of xs member) ≡ Some h → (host_of xs member ≡ Some h → P h) → P h
+    by true is rest = subst P (some_equal x h is) each.0
+    by false is rest = rest is
 
--- what a book decides is a front of the list
-pub book-front : {S : Type 0} (m : Meaning S) (w : World S) (es : List LogEntry) → ChosenRight m w → Each (EntryMet (IsMet w.sent)) es → BookRight w.sent w.view w.chosen es
-    → take (length (decided_of 0 es)) w.chosen ≡ decided_of 0 es
-book-front {S = S} m w es r met right =
-    let ds : List Batch = decided_of 0 es in
-    let front : IsFront ds w.chosen =
-    one_list group_secret digest_of (λ f. w.view) (is_among w.faulty) (diary w) (stated w.sent) ds w.chosen (λ f left right. right-witnessed m w r.1)
-    (grounded-exact w ds r.0.0 (decided-met (IsMet w.sent) es met)) (certified_book m group_secret (stated w.sent) w.view es right.sound) r.1.certified right.within in
-    ap (λ (bs : List Batch). take (length ds) bs) front.is ∙ take-append_seam ds front.rest
+pub right-marks : {S : Type 0} (m : Meaning S) (w : World S) → WorldRight m w → w.ending ≡ None → AreMarksRight m w.view w.chosen w.sent w.marked (is_among w.faulty) (diary w)
+right-marks m w r on = marks-right m w (is_among w.faulty) (λ member h at. each_found (HostMarks m w.view w.chosen w.sent w.marked) w.hosts member h (r.marks on) at)
 
--- the batch that waits at a host is the list's at the next place
-pub waiting-at : {S : Type 0} (m : Meaning S) (view : View) (chosen : List Batch) (n : Node S) (batch : Batch) → DeliversInOrder m (empty m view) n → take (length (decided_of 0 n.entries)) chosen ≡ decided_of 0 n.entries
-    → n.waiting ≡ Some batch → batch_at chosen (next_place n) ≡ Some batch
-waiting-at m view chosen n batch d front at =
-    batch_at-next chosen n.replica.place ∙ front-get (decided_of 0 n.entries) chosen n.replica.place batch front (sym (from_first m view n d).waiting ∙ at)
+-- a list has a batch at each index below its length
+get_some : (list : List Batch) (i : ℕ) → i < length list → (b : Batch) × (slice_get list i ≡ Some b)
+get_some [] i low = absurd (omega (arith, low))
+get_some (b ∷ bs) zero low = (b, refl)
+get_some (b ∷ bs) (suc i) low = get_some bs i (omega (arith, low))
+
+get_among : (list : List Batch) (i : ℕ) (b : Batch) → slice_get list i ≡ Some b → Among b list
+get_among [] i b at = absurd (cc)
+get_among (x ∷ xs) zero b at = inl (some_equal b x (sym at))
+get_among (x ∷ xs) (suc i) b at = inr (get_among xs i b at)
+
+-- what a book decides at a place of the list is the list's batch there
+pub decides-chosen : {S : Type 0} (m : Meaning S) (w : World S) (es : List LogEntry) (d : Decision) → ChosenRight m w → EntryMet (IsMet w.sent) (Decided d) → IsSoundBook group_secret (stated w.sent) w.view es
+    → Among (Decided d) es → (k : ℕ) → d.slot.place ≡ suc k → k < length w.chosen → batch_at w.chosen d.slot.place ≡ Some d.batch
+decides-chosen {S = S} m w es d r met sound there k at low =
+    let found = get_some w.chosen k low in
+    let long : length (take k w.chosen) ≡ k = length-take-le k w.chosen (omega (arith, low)) in
+    let own : Certified group_secret (stated w.sent) w.view d.slot.place (digest_of d.batch) = certified_book group_secret (stated w.sent) w.view es d sound there in
+    let listed : Certified group_secret (stated w.sent) w.view (length (take k w.chosen) + 1) (digest_of found.0) =
+    certified_get group_secret digest_of (λ front. w.view) (stated w.sent) [] w.chosen k found.0 r.1.certified found.1 in
+    let same : length (take k w.chosen) + 1 ≡ d.slot.place = omega (arith, long, at) in
+    let here : Certified group_secret (stated w.sent) w.view d.slot.place (digest_of found.0) = subst (λ (p : ℕ). Certified group_secret (stated w.sent) w.view p (digest_of found.0)) same listed in
+    let one : digest_of d.batch ≡ digest_of found.0 =
+    decided_once group_secret digest_of w.view (is_among w.faulty) (diary w) (stated w.sent) (right-witnessed m w r.1) d.slot.place own.regency here.regency (digest_of d.batch) (digest_of found.0) own.accepts here.accepts
+    own.decision here.decision in
+    let batch : d.batch ≡ found.0 = (grounded-exact w (d.batch ∷ []) r.0.0 (met, tt)).one d.batch found.0 (inl refl) (get_among w.chosen k found.0 found.1) one in
+    ap (λ (p : ℕ). batch_at w.chosen p) at ∙ (found.1 ∙ ap (λ (b : Batch). Some b) (sym batch))
+
+-- so a book that makes no place past the end of the list decides along it
+pub book-along : {S : Type 0} (m : Meaning S) (w : World S) (es : List LogEntry) → ChosenRight m w → Each (EntryMet (IsMet w.sent)) es → BookRight w.sent w.view w.chosen es → AreAlong w.chosen es
+book-along {S = S} m w es r met right = record {
+  decided = λ d there.
+      let s = split_at es (Decided d) there in
+      let turn = in_turn group_secret (stated w.sent) w.view s.before d s.after (subst (λ (xs : List LogEntry). IsSoundBook group_secret (stated w.sent) w.view xs) s.is right.sound) in
+      let most = made_most es d.slot.place (record { entry = Decided d; there = there; made = refl }) in
+      let within = right.within in
+      decides-chosen m w es d r (each_among (EntryMet (IsMet w.sent)) es (Decided d) met there) right.sound there (last_made s.before) (omega (arith, turn)) (omega (arith, turn, most, within));
+  reached = right.within;
+}
+
+-- a batch that a node delivers is the list's at its place, with the number of its requests that are executed there
+pub due-agrees : {S : Type 0} (m : Meaning S) (stated : List Statement) (view : View) (chosen : List Batch) (whole : List LogEntry) (n : Node S) (d : Delivery) → IsSound stated view n → n.entries ≡ cut_at n.opening whole
+    → AreAlong chosen whole → IsAt m view chosen n → WasDue m n d → IsChosenAt m view chosen d
+due-agrees {S = S} m stated view chosen whole n d sound cut along at was =
+    let before : n.replica.place ≡ d.place - 1 = omega (arith, was.place) in
+    let same : n.replica ≡ state m view (take (d.place - 1) chosen) = at.replica ∙ ap (λ (k : ℕ). state m view (take k chosen)) before in
+    record {
+      batch = subst (λ (k : ℕ). batch_at chosen k ≡ Some d.batch) (sym was.place) (decided_at chosen whole (next_place n) d.batch along (waiting_decided stated view whole n d.batch sound cut was.batch));
+      executed = was.executed ∙ ap (λ (r : Replica S). length (executed_lines m r d.batch)) same;
+    }
+
+-- what stands at an index stands within the list
+get_low : (list : List Batch) (k : ℕ) (batch : Batch) → slice_get list k ≡ Some batch → k ≤ length list
+get_low [] k batch at = absurd (cc)
+get_low (b ∷ bs) zero batch at = omega arith
+get_low (b ∷ bs) (suc k) batch at = omega (arith, get_low bs k batch at)
 
 -- what stands at a place stands within the list
 place_low : (list : List Batch) (place : ℕ) (batch : Batch) → batch_at list place ≡ Some batch → place - 1 ≤ length list
 place_low list zero batch at = absurd (cc)
 place_low list (suc k) batch at = omega (arith, get_low list k batch at)
-
--- so is a batch that it delivers, with the number of its requests that are executed there
-pub due-agrees : {S : Type 0} (m : Meaning S) (view : View) (chosen : List Batch) (n : Node S) (d : Delivery) → DeliversInOrder m (empty m view) n → take (length (decided_of 0 n.entries)) chosen ≡ decided_of 0 n.entries
-    → WasDue m n d → IsChosenAt m view chosen d
-due-agrees {S = S} m view chosen n d order front was =
-    let ds : List Batch = decided_of 0 n.entries in
-    let before : n.replica.place ≡ d.place - 1 = omega (arith, was.place) in
-    let low : n.replica.place ≤ length ds = get_low ds n.replica.place d.batch (sym (from_first m view n order).waiting ∙ was.batch) in
-    let same : n.replica ≡ state m view (take (d.place - 1) chosen) =
-    (from_first m view n order).replica ∙ (ap (λ (bs : List Batch). state m view bs) (front-take ds chosen n.replica.place front low) ∙ ap (λ (k : ℕ). state m view (take k chosen)) before) in
-    record {
-      batch = subst (λ (k : ℕ). batch_at chosen k ≡ Some d.batch) (sym was.place) (waiting-at m view chosen n d.batch order front was.batch);
-      executed = was.executed ∙ ap (λ (r : Replica S). length (executed_lines m r d.batch)) same;
-    }
 
 -- the list grows
 
@@ -203,16 +265,22 @@ chosen_longer m view chosen more front d is =
 pub book_longer : (sent : List Sent) (view : View) (chosen more : List Batch) → take (length chosen) more ≡ chosen → (es : List LogEntry) → BookRight sent view chosen es → BookRight sent view more es
 book_longer sent view chosen more front es b = record { sound = b.sound; within = omega (arith, b.within, front-length chosen more front) }
 
+wrote_longer : {S : Type 0} (sent : List Sent) (m : Meaning S) (view : View) (chosen more : List Batch) → take (length chosen) more ≡ chosen → (h : Host S) (whole : List LogEntry) → HasWritten sent m view chosen h whole
+    → HasWritten sent m view more h whole
+wrote_longer sent m view chosen more front h whole w = record { is = w.is; cut = w.cut; made = w.made; right = book_longer sent view chosen more front whole w.right; met = w.met; past = w.past; at = at_longer m view chosen more h.node front w.at }
+
 pub host_longer : {S : Type 0} (sent : List Sent) (m : Meaning S) (view : View) (chosen more : List Batch) → take (length chosen) more ≡ chosen → (h : Host S) → HostRight sent m view chosen h
     → HostRight sent m view more h
 host_longer sent m view chosen more front h r =
     record {
       sound = r.sound;
       shared = r.shared;
-      stored = r.stored;
+      all = r.all;
+      past = r.past;
       lasts = r.lasts;
-      order = r.order;
-      within = omega (arith, r.within, front-length chosen more front);
+      snapshots = each-weaken (IsSnapshotAt m view chosen) (IsSnapshotAt m view more) (snapshot_longer m view chosen more front) r.all r.snapshots;
+      whole = r.whole;
+      wrote = wrote_longer sent m view chosen more front h r.whole r.wrote;
       count = r.count;
       places = r.places;
       agrees = each-weaken (IsChosenAt m view chosen) (IsChosenAt m view more) (chosen_longer m view chosen more front) h.delivered r.agrees;
@@ -236,43 +304,46 @@ book_sent sent s view chosen es b = record {
   within = b.within;
 }
 
+met_sent : (sent : List Sent) (s : Sent) (es : List LogEntry) → Each (EntryMet (IsMet sent)) es → Each (EntryMet (IsMet (sent ++ s ∷ []))) es
+met_sent sent s es met = each-weaken (EntryMet (IsMet sent)) (EntryMet (IsMet (sent ++ s ∷ []))) (entry-weaker (IsMet sent) (IsMet (sent ++ s ∷ [])) (met-grows sent s)) es met
+
+wrote_sent : {S : Type 0} (sent : List Sent) (s : Sent) (m : Meaning S) (view : View) (chosen : List Batch) (h : Host S) (whole : List LogEntry) → HasWritten sent m view chosen h whole → HasWritten (sent ++ s ∷ []) m view chosen h whole
+wrote_sent sent s m view chosen h whole w = record { is = w.is; cut = w.cut; made = w.made; right = book_sent sent s view chosen whole w.right; met = met_sent sent s whole w.met; past = w.past; at = w.at }
+
 -- and who is right
 pub host_sent : {S : Type 0} (sent : List Sent) (s : Sent) (m : Meaning S) (view : View) (chosen : List Batch) (h : Host S) → HostRight sent m view chosen h → HostRight (sent ++ s ∷ []) m view chosen h
 host_sent sent s m view chosen h r =
     record {
       sound = sound_more (stated sent) (stated (sent ++ s ∷ [])) (among-all (stated sent) (stated (sent ++ s ∷ [])) (stated-grows sent s)) view h.node r.sound;
       shared = r.shared;
-      stored = r.stored;
+      all = r.all;
+      past = r.past;
       lasts = r.lasts;
-      order = r.order;
-      within = r.within;
+      snapshots = r.snapshots;
+      whole = r.whole;
+      wrote = wrote_sent sent s m view chosen h r.whole r.wrote;
       count = r.count;
       places = r.places;
       agrees = r.agrees;
       earlier = r.earlier;
       diary = book_sent sent s view chosen h.life.diary r.diary;
       aside = book_sent sent s view chosen h.life.aside r.aside;
-      few = few-sent sent s h r.few;
+      few = few-sent sent s r.whole h r.few;
     }
 
 -- ---- fronts of books
 
+last_front : (count : ℕ) (es : List LogEntry) → last_made (take count es) ≤ last_made es
+last_front zero es = omega arith
+last_front (suc k) [] = omega arith
+last_front (suc k) (e ∷ es) = let rest = last_front k es in omega (arith, rest)
+
 pub front_right : (sent : List Sent) (view : View) (chosen : List Batch) (count : ℕ) (es : List LogEntry) → BookRight sent view chosen es → BookRight sent view chosen (take count es)
 front_right sent view chosen count es b =
-    let f : IsFront (decided_of 0 (take count es)) (decided_of 0 es) = front_decided 0 es count in
-    let long : length (decided_of 0 es) ≡ length (decided_of 0 (take count es)) + length f.rest = ap (λ (bs : List Batch). length bs) f.is ∙ length-append (decided_of 0 (take count es)) f.rest in
-    record {
-      sound = front_sound group_secret (stated sent) view es count b.sound;
-      within = omega (arith, b.within, long);
-    }
+    let within = b.within in
+    let front = last_front count es in
+    record { sound = front_sound group_secret (stated sent) view es count b.sound; within = omega (arith, within, front) }
 
 -- nothing is one
 pub none_right : (sent : List Sent) (view : View) (chosen : List Batch) (es : List LogEntry) → BookRight sent view chosen es → BookRight sent view chosen []
 none_right sent view chosen es b = front_right sent view chosen 0 es b
-
--- the book of a host that is right is one
-pub own_right : {S : Type 0} (sent : List Sent) (m : Meaning S) (view : View) (chosen : List Batch) (h : Host S) → HostRight sent m view chosen h → BookRight sent view chosen h.node.entries
-own_right sent m view chosen h r = record {
-  sound = subst (λ (k : List ℕ). IsSoundBook k (stated sent) view h.node.entries) r.shared (book_sound (stated sent) view h.node r.sound);
-  within = r.within;
-}

@@ -1,20 +1,18 @@
 -- Each event of a world keeps the list of chosen batches right.
-use Rattle.replica_laws.proofs.Sources.{HasSource}
 use Rattle.store_laws.specs.Restored.{Images, restores}
-use Rattle.store_laws.specs.States.{MayLeave}
-use Rattle.node_laws.specs.Restored.{IsSoundBook}
+use Rattle.store_laws.specs.States.{MayLeave, StoreState}
 use Rattle.node_laws.proofs.Restored.{book_sound}
 use Rattle.node_laws.proofs.CertifiedBooks.{certified_book}
-use Rattle.world_laws.proofs.Few.{sources, may-have, few-step, few-after, begun-step, few-opened, few-book, few-decided}
-use Rattle.world_laws.proofs.Fitting.{FitHost}
-use Rattle.world_laws.proofs.Lives.{left-restored, Lasts, book_left, lasts-after, lasts-opened}
-use Rattle.world_laws.proofs.ChosenLives.{named, diary_held, host-called, host-crashes, host-resumes}
-use Rattle.std.proofs.Common.{◌^◌, ◌<◌, ◌≡◌, ⊎_elim, ◌⊎◌, inl, inr, ℕ, ◌+◌, ◌≤◌, Bool, true, false, List, [], ◌∷◌, ◌++◌, length, refl, ap, ◌∙◌, sym, arith, cond, Option, Some, None, is_some, subst, take, length-append, zero, suc, nat_lt, filter, drop}
-use Rattle.std.proofs.lemmas.Bool.{le-ltb, ltb-true}
-use Rattle.std.specs.Prelude.{map, slice_get, slice_set}
-use Rattle.std.specs.List.{flat_map}
-use Rattle.smart_base.specs.Lists.{Each, Distinct}
-use Rattle.smart_base.specs.Views.{View, is_view}
+use Rattle.world_laws.proofs.Few.{may-have, few-opened, few-book}
+use Rattle.world_laws.proofs.Fitting.{FitHost, own-fits, spelled-life, step-fit}
+use Rattle.world_laws.proofs.Lives.{book_left, lasts-opened, Stopped, has_diary, left_made, left_texts, left_upto, life-firm, place_left}
+use Rattle.world_laws.proofs.ChosenLives.{GoesOn, all_states, goes_on, host-called, host-crashes, host-resumes, node_left, own_left}
+use Rattle.std.proofs.Common.{◌^◌, ◌<◌, ◌≡◌, ⊎_elim, ◌⊎◌, inl, inr, ℕ, ◌≤◌, true, false, List, [], ◌∷◌, ◌++◌, length, refl, ap, ◌∙◌, sym, arith, Option, Some, None, subst, take, length-append, zero, suc, nat_lt, filter, drop, nat_le, not, ◌&&◌}
+use Rattle.std.proofs.lemmas.Bool.{le-ltb, ltb-true, leb-true}
+use Rattle.std.specs.Prelude.{IfSome, map, slice_get, slice_set}
+use Rattle.std.specs.List.{flat_map, list_all, list_any}
+use Rattle.smart_base.specs.Lists.{Each, Distinct, same_bytes}
+use Rattle.smart_base.specs.Views.{View}
 use Rattle.smart_base.specs.declared.party.Party.{Party}
 use Rattle.smart_base.specs.declared.party.Party.TheVariants as parties
 use Rattle.smart_statements.specs.Forms.{SignedBy}
@@ -24,72 +22,126 @@ use Rattle.smart_statements.specs.declared.statement.Request.{Request}
 use Rattle.smart_statements.specs.declared.statement.Answer.{Answer}
 use Rattle.smart_messages.specs.declared.message.Message.TheVariants.{Ask}
 use Rattle.smart_statements.specs.declared.entry.NodeEvent.{NodeEvent}
-use Rattle.smart_statements.specs.declared.entry.NodeEvent.TheVariants.{Arrive, Tick, Deliver, Firm}
 use Rattle.smart_service.specs.Services.{Meaning}
-use Rattle.vote_book.specs.Books.{Among}
-use Rattle.replica_rules.specs.Replicas.{empty, state, batch_at}
-use Rattle.replica_rules.specs.Seals.{signed}
+use Rattle.vote_book.specs.Books.{Among, HasMade}
+use Rattle.replica_rules.specs.Replicas.{batch_at}
+use Rattle.replica_rules.specs.Seals.{fits, signed, digest_of, is_managers, is_verified, request_fits}
 use Rattle.node_rules.specs.Nodes.{Node, next_place, view_of}
-use Rattle.node_rules.specs.Steps.{Outcome, made_firm, step_of, leaving, opened}
+use Rattle.node_rules.specs.Steps.{step_of, leaving, opened, takes_in}
 use Rattle.node_rules.specs.declared.node.Held.{Held}
-use Rattle.agreement_laws.specs.Fronts.{IsFront}
 use Rattle.agreement_laws.specs.Statements.{Statement, Asked, signer_of, within}
-use Rattle.agreement_laws.proofs.Lists.{among_flat, each_append, each_both, some_equal}
+use Rattle.agreement_laws.proofs.Lists.{among_flat, each_among, each_both, some_equal}
+use Rattle.agreement_laws.specs.Lists.{Certified}
 use Rattle.vote_book.specs.declared.entry.LogEntry.{LogEntry}
 use Rattle.smart_base.proofs.ViewFacts.{view-distinct, each-weaken}
 use Rattle.client_quorum.specs.Clients.{request_of}
-use Rattle.node_laws.specs.Sound.{IsHeld, IsSound}
-use Rattle.node_laws.proofs.Passes.{sound_step, sound_released, sound_opened}
-use Rattle.world_rules.specs.Secrets.{group_secret, period}
+use Rattle.node_laws.specs.Sound.{HasBatch}
+use Rattle.node_laws.proofs.Passes.{sound_opened}
+use Rattle.world_rules.specs.Secrets.{group_secret}
 use Rattle.world_rules.specs.Clients.{heard}
-use Rattle.node_rules.specs.Deliveries.{delivery_in}
-use Rattle.world_rules.specs.Worlds.{Course, course_of, Host, World, from_to, posts, sends_all, chosen_with, host_after, stepped, hearing, hosts_from, begun, host_of_node, host_resumed, host_crashed, outset_of}
+use Rattle.world_rules.specs.Worlds.{Course, course_of, Host, World, from_to, posts, sends_all, chosen_with, host_after, stepped, hearing, hosts_from, begun, host_of_node, host_resumed, host_crashed, meets, outset_of, snapshot_in, written}
 use Rattle.world_rules.specs.Plays.{world_after}
 use Rattle.world_rules.specs.Premises.{is_among, is_excused, is_forged, too_many}
-use Rattle.node_rules.specs.Deliveries.{AtPlaces}
-use Rattle.world_laws.specs.Promises.{IsNext, IsChosenAt, IsPrefix}
+use Rattle.world_laws.specs.Promises.{IsHeader, IsNext, IsPrefix}
 use Rattle.world_rules.specs.declared.line.Line.{Line}
 use Rattle.client_quorum.specs.declared.client.Client.{Client}
 use Rattle.client_quorum.specs.declared.client.Heard.{Heard}
 use Rattle.world_rules.specs.declared.message.Content.{Content}
 use Rattle.world_rules.specs.declared.message.Content.TheVariants as contents
 use Rattle.world_rules.specs.declared.message.Sent.{Sent}
-use Rattle.node_rules.specs.Reopening.{decided_of, entries_in}
-use Rattle.replica_laws.specs.Books.{DeliversInOrder}
-use Rattle.replica_laws.proofs.InOrder.{from_first, in_order-step, in_order-released, in_order-opened}
-use Rattle.replica_laws.proofs.Follows.{next-step, WasDue, due-step}
-use Rattle.replica_laws.proofs.Counted.{places-append, advances-step}
 use Rattle.world_rules.specs.Stated.{HasDiary, stated_in, stated, IsWitnessed}
 use Rattle.world_laws.proofs.Lists.{each_set, each_get}
-use Rattle.world_laws.proofs.Keeps.{after_call, IsRead, called, ask_of, asked_by, by-posts, Keeps, keeps-world_after, ReadsSent, MayRead, may_read, signed_by, from_node, from_client, from_script, IsDown, KeepsAll, with_host, entries_left, node_resumed}
-use Rattle.replica_laws.proofs.FitNodes.{IsBrief}
-use Rattle.world_laws.proofs.NoClash.{IsMet}
-use Rattle.world_laws.proofs.Grounded.{NodeMet, Grounded, grounded-reads, keeps-grounded, grounded-begun, HostMet, grounded-resumes}
-use Rattle.world_laws.proofs.Unforged.{Unforged, keeps-unforged, fine_own}
+use Rattle.world_laws.proofs.Keeps.{after_call, IsRead, called, ask_of, asked_by, by-posts, by-posts-ended, IsUp, Keeps, KeepsBut, MayTake, keeps-world_after, ReadsSent, MayRead, may_read, signed_by, from_node, from_client, from_script, IsDown, KeepsAll, with_host, entries_left, node_resumed}
+use Rattle.replica_laws.proofs.Small.{IsBrief}
+use Rattle.world_laws.proofs.NoClash.{IsMet, IsTextMet, text-grows}
+use Rattle.world_laws.proofs.Grounded.{grounded-event, grounded-reads, keeps-grounded, grounded-begun, HostMet, grounded-resumes, EntryMet}
+use Rattle.world_laws.proofs.Unforged.{keeps-unforged, fine_own}
 use Rattle.world_laws.proofs.Aligned.{Aligned, AllAligned}
-use Rattle.world_laws.proofs.Fronts.{front-take}
+use Rattle.world_laws.proofs.Fronts.{front-same}
 use Rattle.world_laws.proofs.Stating.{IsSaid, message_says}
-use Rattle.replica_laws.proofs.Longer.{front_same, Longer, longer-step}
-use Rattle.world_laws.proofs.Stores.{Fits, IsTold, may-told, firm-grows, fits-stepped, fits-opened, firm-heard}
-use Rattle.world_laws.proofs.Witnessing.{stated_event, stated-grows, StatesShown, ShowsOwn, Firmer, firm_of, shown-faulty, shown-sent, shown-set, leave_shown}
-use Rattle.world_laws.proofs.Chosen.{chosen_longer, HostRight, WorldRight, Based, ChosenRight, chosen-front, within-step, certified-step, right-witnessed, book-front, waiting-at, due-agrees, host_longer, certified_sent, host_sent, BookRight, front_right, book_longer, none_right, own_right}
-use Rattle.node_rules.proofs.Rulewise.{ForEvent}
+use Rattle.replica_laws.proofs.Longer.{front_same}
+use Rattle.world_laws.proofs.Stores.{IsTold, may-told}
+use Rattle.world_laws.proofs.Witnessing.{stated-grows, StatesShown, ShowsOwn, Firmer, firm_of, shown-faulty, shown-sent, shown-set, leave_shown}
+use Rattle.world_laws.proofs.Chosen.{HostRight, WorldRight, Based, ChosenRight, are_restorable, book-along, chosen-front, certified-step, right-witnessed, host_longer, certified_sent, host_sent, BookRight, none_right, each-step, low-step}
+use Rattle.world_rules.specs.declared.line.Header.{Header}
+use Rattle.vote_book.specs.declared.entry.LogEntry.TheVariants.{Decided}
+use Rattle.vote_book.specs.declared.entry.Decision.{Decision}
+use Rattle.book_laws.specs.BookCuts.{cut_at}
+use Rattle.node_laws.specs.Restored.{IsSoundBook}
+use Rattle.replica_laws.proofs.FitBooks.{FitBook}
+use Rattle.vote_book.specs.Entries.{FitsEntry, entry_text}
+use Rattle.world_laws.proofs.Wholes.{decided_at, waiting_decided}
+use Rattle.snapshot_form.specs.Replicas.{IsOfClients}
+use Rattle.world_laws.proofs.Snapshots.{IsRestorable, IsSnapshotAt}
+use Rattle.world_laws.proofs.ChosenSteps.{IsSourced, Later, goes_later, host-stepped, leaves_shown, settles, stands}
+use Rattle.smart_base.specs.declared.limits.TheConstants.{LAST_CLIENT}
+use Rattle.node_laws.proofs.Lists.{all_each}
+use Rattle.smart_base.proofs.SameLists.{and_true}
+use Rattle.world_rules.specs.Crashes.{bytes_held}
+use Rattle.world_rules.specs.Fronts.{checkpoint_place, count_kept, stated_place}
+use Rattle.replica_laws.proofs.Checked.{fits_each}
+use Rattle.node_rules.specs.Arrivals.{is_batch_for}
+use Rattle.std.proofs.lemmas.List.{length-map}
+use Rattle.world_laws.proofs.Reopens.{GoesBehind, node_behind}
+use Rattle.world_laws.proofs.Ahead.{one_of, written_fits}
+use Rattle.world_laws.proofs.Fetching.{IsFetchMet, fetch-longer, fetch-step, fetch-taken}
+use Rattle.world_laws.proofs.MarksRight.{HostMarks, marks-called, marks-crashed, marks-opened, marks-resumed, marks-stepped, marks_longer}
+use Rattle.world_laws.proofs.Meeting.{all-met, met-goes_on, met-more}
+use Rattle.world_rules.specs.Premises.{all_marked}
+use Rattle.store_form.specs.declared.checkpoint.Checkpoint.{Checkpoint}
+use Rattle.store_laws.specs.Asked.{IsOneOf}
+use Rattle.replica_laws.proofs.FitNodes.{FitsSnapshot, Settles}
+use Rattle.state_transfer.specs.declared.fetch.Fetch.{Fetch}
 
 -- messages leave
+
+-- marks stay right, and texts of plans met, where more is met and the list grows
+
+all-marks : {S : Type 0} (m : Meaning S) (view : View) (chosen more : List Batch) (sent sent' : List Sent) (marked marked' : List (List ℕ)) → take (length chosen) more ≡ chosen
+    → ((text : List ℕ) → IsTextMet sent marked text → IsTextMet sent' marked' text) → (hosts : List (Host S)) → Each (HostMarks m view chosen sent marked) hosts → Each (HostMarks m view more sent' marked') hosts
+all-marks m view chosen more sent sent' marked marked' front met hosts each =
+    each-weaken (HostMarks m view chosen sent marked) (HostMarks m view more sent' marked') (marks_longer m view chosen more sent sent' marked marked' front met) hosts each
+
+all-fetched : {S : Type 0} (sent sent' : List Sent) (marked marked' : List (List ℕ)) → ((text : List ℕ) → IsTextMet sent marked text → IsTextMet sent' marked' text) → (hosts : List (Host S))
+    → Each (λ (h : Host S). IsFetchMet sent marked h.node.fetch) hosts → Each (λ (h : Host S). IsFetchMet sent' marked' h.node.fetch) hosts
+all-fetched {S = S} sent sent' marked marked' met hosts each =
+    each-weaken (λ (h : Host S). IsFetchMet sent marked h.node.fetch) (λ (h : Host S). IsFetchMet sent' marked' h.node.fetch)
+    (λ h is. fetch-longer sent sent' marked marked' met h.node.fetch is) hosts each
 
 -- more is sent, which states nothing but what has been stated or is shown
 right-posts : {S : Type 0} (m : Meaning S) (w : World S) (s : Sent) → StatesShown w.faulty (stated w.sent) w.hosts s.content → WorldRight m w → WorldRight m (posts w s)
 right-posts {S = S} m w s states r =
-    by-posts (λ (v : World S). WorldRight m v) w s
-    (λ ending. record { right = r.right; ids = r.ids; viewed = r.viewed; certified = r.certified; few = r.few; shown = r.shown; short = r.short })
+    by-posts-ended (λ (v : World S). WorldRight m v) w s
+    (λ ending ended. record {
+      right = r.right;
+      ids = r.ids;
+      viewed = r.viewed;
+      period_fits = r.period_fits;
+      certified = r.certified;
+      few = r.few;
+      shown = r.shown;
+      begins = r.begins;
+      low = r.low;
+      of = r.of;
+      short = r.short;
+      marks = λ on. absurd (ended on);
+      fetched = λ on. absurd (ended on);
+    })
     (λ free room. record {
       right = each-weaken (HostRight w.sent m w.view w.chosen) (HostRight (w.sent ++ s ∷ []) m w.view w.chosen) (host_sent w.sent s m w.view w.chosen) w.hosts r.right;
       ids = r.ids;
       viewed = r.viewed;
+      period_fits = r.period_fits;
       certified = certified_sent w.sent s w.view w.chosen r.certified;
       few = r.few;
       shown = shown-sent w.faulty w.sent s w.hosts states r.shown;
+      begins = r.begins;
+      low = r.low;
+      of = r.of;
       short = let below = ltb-true (length w.sent) (2 ^ 24) room in let longer = length-append w.sent (s ∷ []) in omega (arith, below, longer);
+      marks = λ on.
+          all-marks m w.view w.chosen w.chosen w.sent (w.sent ++ s ∷ []) w.marked w.marked (front-same w.chosen) (text-grows w.sent w.marked s) w.hosts (r.marks on);
+      fetched = λ on. all-fetched w.sent (w.sent ++ s ∷ []) w.marked w.marked (text-grows w.sent w.marked s) w.hosts (r.fetched on);
     })
 
 -- what states nothing else, does so where a message has left
@@ -154,10 +206,6 @@ inject_shows {S = S} w c fine reads read x there =
     ⊎_elim {C = Among x (stated w.sent) ⊎ Each (ShowsOwn w.faulty x) w.hosts} (λ excused. inr (excused_shows w.faulty w.rogue x w.hosts excused))
     (λ own. inl (stands_stated w.sent own.stands.message x own.stands.there own.stands.states)) (fine_own w.faulty w.rogue w.sent c x fine reads read there)
 
--- the batches of a host were met
-host-met : {S : Type 0} {m : Meaning S} (w : World S) (i : ℕ) (h : Host S) → slice_get w.hosts i ≡ Some h → Grounded m w → NodeMet (IsMet w.sent) h.node
-host-met w i h at g = (each_get (HostMet (IsMet w.sent)) w.hosts i h g.hosts at).node
-
 -- hosts keep their names
 pub ids-set : {S : Type 0} (hs : List (Host S)) (i : ℕ) (h h' : Host S) → slice_get hs i ≡ Some h → h'.node.id ≡ h.node.id → map (λ y. y.node.id) (slice_set hs i h') ≡ map (λ y. y.node.id) hs
 ids-set [] i h h' at same = absurd (cc)
@@ -166,139 +214,15 @@ ids-set (x ∷ hs) (suc i) h h' at same = ap (λ ys. x.node.id ∷ ys) (ids-set 
 
 -- a host's node takes an event
 
--- a longer book, of which more is firm
-record Later {S : Type 0} (n n' : Node S) : Type 0 where
-  named : n'.id ≡ n.id
-  shared : n'.secret ≡ n.secret
-  book : IsFront n.entries n'.entries
-  firm : n.firm ≤ n'.firm
-  low : n'.firm ≤ length n'.entries
-
-later : {S : Type 0} (n a n' : Node S) → a.id ≡ n.id → a.secret ≡ n.secret → a.entries ≡ n.entries → n.firm ≤ a.firm → a.firm ≤ length n.entries → Longer a n' → Later n n'
-later {S = S} n a n' id secret entries firm low f =
-    let book : IsFront n.entries n'.entries = subst (λ (es : List LogEntry). IsFront es n'.entries) entries f.book in
-    let longer : length n'.entries ≡ length n.entries + length book.rest = ap (λ (es : List LogEntry). length es) book.is ∙ length-append n.entries book.rest in
-    record { named = f.named ∙ id; shared = f.shared ∙ secret; book = book; firm = omega (arith, firm, f.firm_is); low = omega (arith, low, f.firm_is, longer) }
-
-later-step : {S : Type 0} (m : Meaning S) (h : Host S) (event : NodeEvent) → IsTold h event → Fits h.node h.store → h.node.firm ≤ length h.node.entries → Later h.node (step_of m h.node event).node
-later-step m h (Arrive bytes) told stored low = later h.node h.node _ refl refl refl (omega arith) low (longer-step m h.node (Arrive bytes))
-later-step m h Tick told stored low = later h.node h.node _ refl refl refl (omega arith) low (longer-step m h.node Tick)
-later-step m h Deliver told stored low = later h.node h.node _ refl refl refl (omega arith) low (longer-step m h.node Deliver)
-later-step m h (Firm count) told stored low =
-    let grows = firm-grows h count told stored in
-    later h.node (made_firm h.node count) _ refl refl refl grows.0 grows.1 (longer-step m h.node (Firm count))
-
--- as much is firm as the store tells
-heard-step : {S : Type 0} (m : Meaning S) (h : Host S) (event : NodeEvent) → IsTold h event → Fits h.node h.store → h.node.firm ≤ h.store.firm → (step_of m h.node event).node.firm ≤ h.store.firm
-heard-step m h (Arrive bytes) told stored heard = let same = (longer-step m h.node (Arrive bytes)).firm_is in omega (arith, same, heard)
-heard-step m h Tick told stored heard = let same = (longer-step m h.node Tick).firm_is in omega (arith, same, heard)
-heard-step m h Deliver told stored heard = let same = (longer-step m h.node Deliver).firm_is in omega (arith, same, heard)
-heard-step {S = S} m h (Firm count) told stored heard =
-    let same = (longer-step m h.node (Firm count)).firm_is in
-    let all : (made_firm h.node count).firm ≡ h.store.firm = ap (λ (k : ℕ). (made_firm h.node k).firm) told.life ∙ firm-heard h.node h.store stored in
-    omega (arith, same, all)
-
 -- a diary only grows
 grows-firm : {S : Type 0} (h h' : Host S) (more : List LogEntry) → h'.node.id ≡ h.node.id → h'.life.diary ≡ h.life.diary ++ more → Firmer h h'
 grows-firm h h' more id is = record { named = id; book = record { rest = more; is = is } }
-
--- what comes has a source
-abbrev IsSourced : {S : Type 0} → World S → NodeEvent → Type 0
-IsSourced w event = ForEvent (λ message. HasSource (sources w.sent) message) event
-
--- the host behind it
-host-stepped : {S : Type 0} (m : Meaning S) (w : World S) (i : ℕ) (h : Host S) (event : NodeEvent) → h.up ≡ true → slice_get w.hosts i ≡ Some h → MayRead w h event → IsSourced w event → IsTold h event → ChosenRight m w
-    → HostRight w.sent m w.view (chosen_with w.chosen (next_place (step_of m h.node event).node) (step_of m h.node event).node.waiting) (host_after (course_of m) h (step_of m h.node event))
-host-stepped {S = S} m w i h event up at may came firm r =
-    let g : Grounded m w = r.0.0 in
-    let o : Outcome S = step_of m h.node event in
-    let n' : Node S = o.node in
-    let more : List Batch = chosen_with w.chosen (next_place n') n'.waiting in
-    let front : take (length w.chosen) more ≡ w.chosen = chosen-front w.chosen (next_place n') n'.waiting in
-    let hr : HostRight w.sent m w.view w.chosen h = each_get (HostRight w.sent m w.view w.chosen) w.hosts i h r.1.right at in
-    let own : take (length (decided_of 0 h.node.entries)) w.chosen ≡ decided_of 0 h.node.entries =
-    book-front m w h.node.entries r (host-met w i h at g).entries (own_right w.sent m w.view w.chosen h hr) in
-    let s : IsSound (stated w.sent) w.view n' = sound_step m (stated w.sent) w.view h.node event r.1.viewed hr.sound (stated_event w h h.node.secret event hr.shared may) in
-    let d : DeliversInOrder m (empty m w.view) n' = in_order-step m (empty m w.view) h.node event hr.order in
-    let l : Later h.node n' = later-step m h event firm (hr.stored up) hr.lasts.low in
-    let shared : n'.secret ≡ group_secret = l.shared ∙ hr.shared in
-    let within : length (decided_of 0 n'.entries) ≤ length more = within-step m w.view w.chosen h.node n' n'.waiting refl (next-step m 0 h.node event) d hr.within in
-    let book : BookRight w.sent w.view more n'.entries =
-    record { sound = subst (λ (k : List ℕ). IsSoundBook k (stated w.sent) w.view n'.entries) shared (book_sound (stated w.sent) w.view n' s); within = within } in
-    let lasts : Lasts (host_after (course_of m) h o) = lasts-after m h o up l.book l.firm l.low (heard-step m h event firm (hr.stored up) (hr.lasts.heard up)) hr.lasts in
-    record {
-      sound = sound_released (stated w.sent) w.view n' s;
-      shared = shared;
-      stored = λ up. fits-stepped m h event (hr.stored up);
-      lasts = lasts;
-      order = in_order-released m (empty m w.view) n' d;
-      within = within;
-      count = omega (arith, hr.count, (advances-step m h.node event).count, length-append h.delivered (flat_map delivery_in o.fired));
-      places = places-append (h.resumed + 1) h.delivered (flat_map delivery_in o.fired) hr.places
-          (subst (λ (k : ℕ). AtPlaces k (flat_map delivery_in o.fired)) (omega (arith, hr.count)) (advances-step m h.node event).places);
-      agrees = each_append (IsChosenAt m w.view more) h.delivered (flat_map delivery_in o.fired)
-          (each-weaken (IsChosenAt m w.view w.chosen) (IsChosenAt m w.view more) (chosen_longer m w.view w.chosen more front) h.delivered hr.agrees)
-          (each-weaken (WasDue m h.node) (IsChosenAt m w.view more) (λ x was. chosen_longer m w.view w.chosen more front x (due-agrees m w.view w.chosen h.node x hr.order own was))
-          (flat_map delivery_in o.fired) (due-step m h.node event));
-      earlier = each-weaken (IsChosenAt m w.view w.chosen) (IsChosenAt m w.view more) (chosen_longer m w.view w.chosen more front) h.earlier hr.earlier;
-      diary = subst (λ (es : List LogEntry). BookRight w.sent w.view more es) (sym (lasts.up up)) (front_right w.sent w.view more n'.firm n'.entries book);
-      aside = book_longer w.sent w.view w.chosen more front h.life.aside hr.aside;
-      few = few-after m w.sent h o (few-step m w.sent h event came hr.few) (begun-step m h.node event hr.few.begun) (lasts.up up) hr.few;
-    }
-
--- what is held in it
-held_as : {S : Type 0} (T : List Statement) (h' : Host S) (n' : Node S) → n'.secret ≡ group_secret → h'.node.id ≡ n'.id → h'.node.entries ≡ n'.entries → Each (IsHeld n'.secret n'.id T n'.entries) n'.held
-    → Each (IsHeld group_secret h'.node.id T h'.node.entries) n'.held
-held_as T h' n' secret id entries each =
-    subst (λ (k : List ℕ). Each (IsHeld k h'.node.id T h'.node.entries) n'.held) secret
-    (subst (λ (i : ℕ). Each (IsHeld n'.secret i T h'.node.entries) n'.held) (sym id) (subst (λ (es : List LogEntry). Each (IsHeld n'.secret n'.id T es) n'.held) (sym entries) each))
 
 -- where a host stands in another's place
 set_get : {S : Type 0} (hs : List (Host S)) (i : ℕ) (h h' : Host S) → slice_get hs i ≡ Some h → slice_get (slice_set hs i h') i ≡ Some h'
 set_get [] i h h' at = absurd (cc)
 set_get (x ∷ hs) zero h h' at = refl
 set_get (x ∷ hs) (suc i) h h' at = set_get hs i h h' at
-
--- the world behind it
-right-event : {S : Type 0} (m : Meaning S) (w : World S) (i : ℕ) (h : Host S) (event : NodeEvent) → h.up ≡ true → slice_get w.hosts i ≡ Some h → MayRead w h event → IsSourced w event → IsTold h event → ChosenRight m w
-    → WorldRight m (stepped (course_of m) w i h (step_of m h.node event))
-unfolding stepped
-right-event {S = S} m w i h event up at may came firm r =
-    let n' : Node S = (step_of m h.node event).node in
-    let h' : Host S = host_after (course_of m) h (step_of m h.node event) in
-    let more : List Batch = chosen_with w.chosen (next_place n') n'.waiting in
-    let front : take (length w.chosen) more ≡ w.chosen = chosen-front w.chosen (next_place n') n'.waiting in
-    let hr : HostRight w.sent m w.view w.chosen h = each_get (HostRight w.sent m w.view w.chosen) w.hosts i h r.1.right at in
-    let here : HostRight w.sent m w.view more h' = host-stepped m w i h event up at may came firm r in
-    let l : Later h.node n' = later-step m h event firm (hr.stored up) hr.lasts.low in
-    let s : IsSound (stated w.sent) w.view n' = sound_step m (stated w.sent) w.view h.node event r.1.viewed hr.sound (stated_event w h h.node.secret event hr.shared may) in
-    let ids : map (λ g. g.node.id) (slice_set w.hosts i h') ≡ w.view.members = ids-set w.hosts i h h' at l.named ∙ r.1.ids in
-    right-sends_all m h.node.id (view_of n') _ (leaving n'.firm n'.held)
-    (leave_shown w.faulty (stated w.sent) (slice_set w.hosts i h') i h' n'.held (subst Distinct (sym ids) (view-distinct w.view r.1.viewed)) (set_get w.hosts i h h' at) (here.lasts.up up)
-    (held_as (stated w.sent) h' n' (l.shared ∙ hr.shared) refl refl s.held))
-    (record {
-      right = each_set (HostRight w.sent m w.view more) w.hosts i h'
-          (each-weaken (HostRight w.sent m w.view w.chosen) (HostRight w.sent m w.view more) (host_longer w.sent m w.view w.chosen more front) w.hosts r.1.right) here;
-      ids = ids;
-      viewed = r.1.viewed;
-      certified = certified-step (stated w.sent) m w.view w.chosen n' n'.waiting refl (in_order-step m (empty m w.view) h.node event hr.order)
-          (certified_book m group_secret (stated w.sent) w.view n'.entries (own_right w.sent m w.view more h' here).sound) r.1.certified;
-      few = r.1.few;
-      shown = shown-set w.faulty (stated w.sent) w.hosts i h h' at (grows-firm h h' (from_to h.node.firm n'.firm n'.entries) l.named refl) r.1.shown;
-      short = r.1.short;
-    })
-
--- another host stands at an index, of the same member, whose diary is no shorter
-right-set : {S : Type 0} (m : Meaning S) (w : World S) (i : ℕ) (h h' : Host S) → slice_get w.hosts i ≡ Some h → Firmer h h' → HostRight w.sent m w.view w.chosen h' → WorldRight m w → WorldRight m (with_host w i h')
-right-set m w i h h' at f right r = record {
-  right = each_set (HostRight w.sent m w.view w.chosen) w.hosts i h' r.right right;
-  ids = ids-set w.hosts i h h' at f.named ∙ r.ids;
-  viewed = r.viewed;
-  certified = r.certified;
-  few = r.few;
-  shown = shown-set w.faulty (stated w.sent) w.hosts i h h' at f r.shown;
-  short = r.short;
-}
 
 -- what is known of a host
 pub host-right : {S : Type 0} (m : Meaning S) (w : World S) (i : ℕ) (h : Host S) → slice_get w.hosts i ≡ Some h → ChosenRight m w → HostRight w.sent m w.view w.chosen h
@@ -307,48 +231,250 @@ host-right m w i h at r = each_get (HostRight w.sent m w.view w.chosen) w.hosts 
 pub host-fit : {S : Type 0} (m : Meaning S) (w : World S) (i : ℕ) (h : Host S) → slice_get w.hosts i ≡ Some h → ChosenRight m w → FitHost m h
 host-fit m w i h at r = each_get (FitHost m) w.hosts i h r.0.0.fit.hosts at
 
+-- the requests of a batch that may stand at a place may stand there
+pub may_fit : (secret : List ℕ) (place : ℕ) (digest : List ℕ) (batch : Batch) → is_batch_for secret place digest batch ≡ true → list_all (request_fits secret place) batch ≡ true
+unfolding is_batch_for
+may_fit secret place digest batch is =
+    fits_each secret batch place
+    (and_true (fits secret batch place) (not (list_any is_managers batch)) (and_true (fits secret batch place && not (list_any is_managers batch)) (same_bytes (digest_of batch) digest) is).0).0
+
+-- each batch that a book decides is of clients that there are
+all_of_clients : (secret : List ℕ) (place : ℕ) (batch : Batch) → Each (λ q. request_fits secret place q ≡ true) batch → Each (λ q. q.statement.client ≤ LAST_CLIENT) batch
+all_of_clients secret place [] each = tt
+all_of_clients secret place (q ∷ qs) each =
+    let two = and_true (nat_le q.statement.client LAST_CLIENT && nat_lt q.statement.after place) (is_verified requests secret q) each.0 in
+    let one = and_true (nat_le q.statement.client LAST_CLIENT) (nat_lt q.statement.after place) two.0 in
+    (leb-true q.statement.client LAST_CLIENT one.0, all_of_clients secret place qs each.1)
+
+-- what is known of a batch that a book decides at a place: it is certified there, the place is low, and its clients are clients
+record IsDecidedRight (sent : List Sent) (view : View) (place : ℕ) (batch : Batch) : Type 0 where
+  certified : Certified group_secret (stated sent) view place (digest_of batch)
+  low : place < 2 ^ 63
+  of : IsOfClients batch
+
+decided-right : (sent : List Sent) (view : View) (es : List LogEntry) (d : Decision) → IsSoundBook group_secret (stated sent) view es → Each FitsEntry es → Among (Decided d) es
+    → IsDecidedRight sent view d.slot.place d.batch
+decided-right sent view es d sound spelled there =
+    let fit : FitsEntry (Decided d) = each_among FitsEntry es (Decided d) spelled there in
+    let has : HasBatch group_secret (stated sent) (Decided d) = each_among (HasBatch group_secret (stated sent)) es (Decided d) sound.batches there in
+    record {
+      certified = certified_book group_secret (stated sent) view es d sound there;
+      low = fit.slot_fits.place_fits.1;
+      of = (fit.batch_fits, all_of_clients group_secret d.slot.place d.batch (all_each (request_fits group_secret d.slot.place) d.batch (may_fit group_secret d.slot.place (digest_of d.batch) d.batch has.may)));
+    }
+
+-- the batch that waits at a right host, if there is one
+waits-right : {S : Type 0} (sent : List Sent) (m : Meaning S) (view : View) (chosen : List Batch) (h : Host S) → (hr : HostRight sent m view chosen h) → Each FitsEntry hr.whole → (waiting : Option Batch)
+    → h.node.waiting ≡ waiting → IfSome waiting (IsDecidedRight sent view (next_place h.node))
+waits-right sent m view chosen h hr spelled None at = tt
+waits-right sent m view chosen h hr spelled (Some batch) at =
+    let is = waiting_decided (stated sent) view hr.whole h.node batch hr.sound hr.wrote.cut at in
+    subst (λ (b : Batch). IsDecidedRight sent view (next_place h.node) b) is.batch_is
+    (subst (λ (k : ℕ). IsDecidedRight sent view k is.decision.batch) is.place_is (decided-right sent view hr.whole is.decision hr.wrote.right.sound spelled is.there))
+
+each_waits : (P Q : Batch → Type 0) (waiting : Option Batch) → ((batch : Batch) → P batch → Q batch) → IfSome waiting P → IfSome waiting Q
+each_waits P Q None all is = tt
+each_waits P Q (Some batch) all is = all batch is
+
+-- all that a host's members have written is few entries
+whole-few : {S : Type 0} (m : Meaning S) (w : World S) (h : Host S) (chosen : List Batch) → length w.sent ≤ 2 ^ 24 → (hr : HostRight w.sent m w.view chosen h) → length hr.whole < 2 ^ 28
+whole-few m w h chosen short hr = few-book group_secret (stated w.sent) w.view w.sent hr.whole hr.wrote.right.sound hr.few.written_from short
+
+-- the world behind it
+right-event : {S : Type 0} (m : Meaning S) → IsRestorable m → (w : World S) (i : ℕ) (h : Host S) (event : NodeEvent) → w.ending ≡ None → h.up ≡ true → slice_get w.hosts i ≡ Some h → MayRead w h event → IsSourced w event
+    → IsTold h event → IsFetchMet w.sent w.marked (takes_in h.node event).node.fetch → FitBook m group_secret (step_of m h.node event).node → ChosenRight m w → WorldRight m (stepped (course_of m) w i h (step_of m h.node event))
+unfolding stepped
+right-event {S = S} m service w i h event on up at may came told text fit r =
+    let n' : Node S = (step_of m h.node event).node in
+    let h' : Host S = host_after (course_of m) h (step_of m h.node event) in
+    let more : List Batch = chosen_with w.chosen (next_place n') n'.waiting in
+    let front : take (length w.chosen) more ≡ w.chosen = chosen-front w.chosen (next_place n') n'.waiting in
+    let hr : HostRight w.sent m w.view w.chosen h = host-right m w i h at r in
+    let here : HostRight w.sent m w.view more h' = host-stepped m w i h event on up at may came told service r hr text in
+    let l : Later h.node n' = goes_later m w i h event on up at may came told service r hr text in
+    let ids : map (λ g. g.node.id) (slice_set w.hosts i h') ≡ w.view.members = ids-set w.hosts i h h' at l.named ∙ r.1.ids in
+    let written_fit : Each FitsEntry (written h') =
+    written_fits h' (life-firm FitsEntry h.life h.node n' fit.book (spelled-life h.life (host-fit m w i h at r).life)).diary fit.book in
+    let spelled : Each FitsEntry here.whole = subst (λ (es : List LogEntry). Each FitsEntry es) (sym (here.wrote.is up)) written_fit in
+    let waits : IfSome n'.waiting (IsDecidedRight w.sent w.view (next_place n')) = waits-right w.sent m w.view more h' here spelled n'.waiting refl in
+    let snapshots : List (List ℕ) = flat_map snapshot_in (step_of m h.node event).fired in
+    let marked : List (List ℕ) = all_marked w.sent w.marked snapshots in
+    let grows : (text : List ℕ) → IsTextMet w.sent w.marked text → IsTextMet w.sent marked text = met-more w.sent w.marked snapshots in
+    right-sends_all m h.node.id (view_of n') _ (leaving n'.firm n'.held)
+    (leave_shown w.faulty (stated w.sent) (slice_set w.hosts i h') i h' n'.firm n'.held (subst Distinct (sym ids) (view-distinct w.view r.1.viewed)) (set_get w.hosts i h h' at)
+    (λ x there low. leaves_shown m w i h event on up at may came told service r hr text x there low))
+    (record {
+      right = each_set (HostRight w.sent m w.view more) w.hosts i h'
+          (each-weaken (HostRight w.sent m w.view w.chosen) (HostRight w.sent m w.view more) (host_longer w.sent m w.view w.chosen more front) w.hosts r.1.right) here;
+      ids = ids;
+      viewed = r.1.viewed;
+      period_fits = r.1.period_fits;
+      certified = certified-step (stated w.sent) w.view w.chosen n' n'.waiting
+          (each_waits (IsDecidedRight w.sent w.view (next_place n')) (λ (batch : Batch). Certified group_secret (stated w.sent) w.view (next_place n') (digest_of batch)) n'.waiting (λ batch is. is.certified) waits)
+          r.1.certified;
+      few = r.1.few;
+      shown = shown-set w.faulty (stated w.sent) w.hosts i h h' at (grows-firm h h' (from_to h.node.firm n'.firm n'.entries) l.named refl) r.1.shown;
+      begins = r.1.begins;
+      low = low-step w.chosen n' n'.waiting
+          (each_waits (IsDecidedRight w.sent w.view (next_place n')) (λ (batch : Batch). next_place n' < 2 ^ 63) n'.waiting (λ batch is. is.low) waits) r.1.low;
+      of = each-step IsOfClients w.chosen n' n'.waiting (each_waits (IsDecidedRight w.sent w.view (next_place n')) IsOfClients n'.waiting (λ batch is. is.of) waits) r.1.of;
+      short = r.1.short;
+      marks = λ goes.
+          let each : Each (IsTextMet w.sent marked) snapshots = all-met w.sent w.marked w.ending snapshots goes in
+          let was : HostMarks m w.view w.chosen w.sent marked h =
+          marks_longer m w.view w.chosen w.chosen w.sent w.sent w.marked marked (front-same w.chosen) grows h (each_get (HostMarks m w.view w.chosen w.sent w.marked) w.hosts i h (r.1.marks on) at) in
+          each_set (HostMarks m w.view more w.sent marked) w.hosts i h'
+          (all-marks m w.view w.chosen more w.sent w.sent w.marked marked front grows w.hosts (r.1.marks on))
+          (marks_longer m w.view w.chosen more w.sent w.sent marked marked front (λ text is. is) h'
+          (marks-stepped m w.view w.chosen w.sent marked h event (stands m w i h event on up at may came told service r hr text)
+          (λ text there. each_among (IsTextMet w.sent marked) snapshots text each there) was));
+      fetched = λ goes.
+          each_set (λ (g : Host S). IsFetchMet w.sent marked g.node.fetch) w.hosts i h' (all-fetched w.sent w.sent w.marked marked grows w.hosts (r.1.fetched on))
+          (fetch-longer w.sent w.sent w.marked marked grows n'.fetch (fetch-step m w.sent w.marked h.node event text));
+    })
+
+-- another host stands at an index, of the same member, whose diary is no shorter
+right-set : {S : Type 0} (m : Meaning S) (w : World S) (i : ℕ) (h h' : Host S) → slice_get w.hosts i ≡ Some h → Firmer h h' → HostRight w.sent m w.view w.chosen h'
+    → (HostMarks m w.view w.chosen w.sent w.marked h → HostMarks m w.view w.chosen w.sent w.marked h') → (IsFetchMet w.sent w.marked h.node.fetch → IsFetchMet w.sent w.marked h'.node.fetch) → WorldRight m w
+    → WorldRight m (with_host w i h')
+right-set {S = S} m w i h h' at f right marked fetches r = record {
+  right = each_set (HostRight w.sent m w.view w.chosen) w.hosts i h' r.right right;
+  ids = ids-set w.hosts i h h' at f.named ∙ r.ids;
+  viewed = r.viewed;
+  period_fits = r.period_fits;
+  certified = r.certified;
+  few = r.few;
+  shown = shown-set w.faulty (stated w.sent) w.hosts i h h' at f r.shown;
+  begins = r.begins;
+  low = r.low;
+  of = r.of;
+  short = r.short;
+  marks = λ on.
+      each_set (HostMarks m w.view w.chosen w.sent w.marked) w.hosts i h' (r.marks on) (marked (each_get (HostMarks m w.view w.chosen w.sent w.marked) w.hosts i h (r.marks on) at));
+  fetched = λ on.
+      each_set (λ (g : Host S). IsFetchMet w.sent w.marked g.node.fetch) w.hosts i h' (r.fetched on)
+      (fetches (each_get (λ (g : Host S). IsFetchMet w.sent w.marked g.node.fetch) w.hosts i h (r.fetched on) at));
+}
+
 -- the store of a host makes a call
-right-called : {S : Type 0} (m : Meaning S) (w : World S) (i : ℕ) (h : Host S) → h.up ≡ true → slice_get w.hosts i ≡ Some h → ChosenRight m w → WorldRight m (called (course_of m) w i h)
-right-called m w i h up at r =
+right-called : {S : Type 0} (m : Meaning S) → IsRestorable m → (w : World S) (i : ℕ) (h : Host S) → h.up ≡ true → slice_get w.hosts i ≡ Some h → ChosenRight m w → WorldRight m (called (course_of m) w i h)
+right-called m service w i h up at r =
+    let hr = host-right m w i h at r in
+    let few = whole-few m w h w.chosen r.1.short hr in
     right-set m w i h (after_call (course_of m) h) at (record { named = refl; book = front_same (firm_of h) })
-    (host-called w.sent m w.view w.chosen h up r.1.short (host-fit m w i h at r) (host-right m w i h at r)) r.1
+    (host-called w.sent m service w.view w.chosen r.1.viewed r.1.begins r.1.low r.1.of h up (subst (λ (es : List LogEntry). length es < 2 ^ 28) (hr.wrote.is up) few) (host-fit m w i h at r) hr) (marks-called m w.view w.chosen w.sent w.marked h) (λ is. is) r.1
 
 -- a member crashes
 right-crashed : {S : Type 0} (m : Meaning S) (w : World S) (i : ℕ) (h : Host S) (left : Images) → h.up ≡ true → slice_get w.hosts i ≡ Some h → MayLeave h.store.devices left → ChosenRight m w
     → WorldRight m (with_host w i (host_crashed (course_of m) h left))
 right-crashed m w i h left up at may r =
     right-set m w i h (host_crashed (course_of m) h left) at
-    (grows-firm h (host_crashed (course_of m) h left) (drop (length h.life.diary) (take (length (restores left).entries) (book_left h))) refl refl)
-    (host-crashes w.sent m w.view w.chosen h left up may (host-fit m w i h at r) (host-right m w i h at r)) r.1
+    (grows-firm h (host_crashed (course_of m) h left) (drop (length h.life.diary) (take (count_kept left (book_left h)) (book_left h))) refl refl)
+    (host-crashes w.sent m w.view w.chosen h left up may (host-right m w i h at r)) (marks-crashed m w.view w.chosen w.sent w.marked h left) (λ is. is) r.1
 
--- a member that has crashed goes on from its diary
-pub resumes-diary : {S : Type 0} (m : Meaning S) (w : World S) (i : ℕ) (h : Host S) → slice_get w.hosts i ≡ Some h → h.up ≡ false → ChosenRight m w → entries_in (entries_left h) ≡ h.life.diary
-resumes-diary m w i h at down r = diary_held h down (host-fit m w i h at r) (host-right m w i h at r).lasts
-
--- which has few entries
+-- the diary of a member has few entries
 pub diary-few : {S : Type 0} (m : Meaning S) (w : World S) (i : ℕ) (h : Host S) → slice_get w.hosts i ≡ Some h → ChosenRight m w → length h.life.diary < 2 ^ 28
 diary-few m w i h at r = let hr = host-right m w i h at r in few-book group_secret (stated w.sent) w.view w.sent h.life.diary hr.diary.sound hr.few.diary r.1.short
 
-pub diary-decides : {S : Type 0} (m : Meaning S) (w : World S) (i : ℕ) (h : Host S) → slice_get w.hosts i ≡ Some h → ChosenRight m w → length (decided_of 0 h.life.diary) < 2 ^ 63
-diary-decides m w i h at r = let few = diary-few m w i h at r in let less = few-decided h.life.diary in omega (arith, few, less)
+-- a checkpoint that states a place is there, if its place is not 0
+no_checkpoint : (present : Option Checkpoint) → IfSome present (λ (x : Checkpoint). 0 < stated_place x.snapshot) → checkpoint_place present ≡ 0 → own_left present ≡ None
+no_checkpoint None some none = refl
+no_checkpoint (Some x) some none = absurd (omega (arith, some, none))
 
-pub resumed-right : {S : Type 0} (m : Meaning S) (w : World S) (i : ℕ) (h : Host S) → h.up ≡ false → slice_get w.hosts i ≡ Some h → ChosenRight m w
-    → HostRight w.sent m w.view w.chosen (host_resumed h (node_resumed (course_of m) w h))
-resumed-right m w i h down at r = host-resumes w.sent m w.view w.chosen h (entries_in (entries_left h)) down r.1.short (resumes-diary m w i h at down r) (host-right m w i h at r)
+-- what a member that has crashed goes on from
+module _ {S : Type 0} (m : Meaning S) (service : IsRestorable m) (w : World S) (i : ℕ) (h : Host S) (down : h.up ≡ false) (at : slice_get w.hosts i ≡ Some h) (r : ChosenRight m w) where
+  abbrev pub left_host : HostRight w.sent m w.view w.chosen h
+  left_host = host-right m w i h at r
 
-right-resumed : {S : Type 0} (m : Meaning S) (w : World S) (i : ℕ) (h : Host S) → h.up ≡ false → slice_get w.hosts i ≡ Some h → ChosenRight m w
-    → WorldRight m (with_host w i (host_resumed h (node_resumed (course_of m) w h)))
-right-resumed m w i h down at r =
-    let by = named m group_secret h.node.id w.view period (entries_in (entries_left h)) in
-    right-set m w i h (host_resumed h (node_resumed (course_of m) w h)) at (record { named = by.name; book = front_same (firm_of h) })
-    (resumed-right m w i h down at r) r.1
+  abbrev pub stopped_host : Stopped left_host.all left_host.past h
+  stopped_host = left_host.lasts.down down
+
+  pub place_made : 0 < place_left stopped_host → HasMade h.life.diary (place_left stopped_host)
+  place_made = left_made left_host.all left_host.past h stopped_host
+
+  diary_met : Each (EntryMet (IsMet w.sent)) h.life.diary
+  diary_met = (each_get (HostMet (IsMet w.sent)) w.hosts i h r.0.0.hosts at).life.diary
+
+  -- it goes on from its diary, over the checkpoint
+  pub resumed_behind : GoesBehind group_secret (stated w.sent) w.view (place_left stopped_host) w.chosen h.life.diary
+  resumed_behind = record {
+    sound = left_host.diary.sound;
+    made = place_made;
+    upto = left_upto left_host.all left_host.past h stopped_host;
+    along = book-along m w h.life.diary r diary_met left_host.diary;
+  }
+
+  -- there is none, if its place is 0
+  pub none_left : place_left stopped_host ≡ 0 → own_left (restores stopped_host.left).present ≡ None
+  none_left none = no_checkpoint (restores stopped_host.left).present (all_stated (restores stopped_host.left).present stopped_host.asked) none
+    where
+      all_stated : (present : Option Checkpoint) → IfSome present (λ (x : Checkpoint). IsOneOf left_host.all x.snapshot) → IfSome present (λ (x : Checkpoint). 0 < stated_place x.snapshot)
+      all_stated None is = tt
+      all_stated (Some x) is = one_of (λ (bytes : List ℕ). 0 < stated_place bytes) left_host.all x.snapshot (all_states w.sent m service w.view w.chosen r.1.viewed r.1.begins r.1.low r.1.of left_host.all left_host.snapshots) is
+
+  -- it may be an own snapshot
+  pub own_fit : IfSome (own_left (restores stopped_host.left).present) FitsSnapshot
+  own_fit = by (restores stopped_host.left).present stopped_host.asked
+    where
+      by : (present : Option Checkpoint) → IfSome present (λ (x : Checkpoint). IsOneOf left_host.all x.snapshot) → IfSome (own_left present) FitsSnapshot
+      by None is = tt
+      by (Some x) is = own-fits m w.view w.chosen (are_restorable m w service r.1) x.snapshot (one_of (IsSnapshotAt m w.view w.chosen) left_host.all x.snapshot left_host.snapshots is)
+
+  -- its diary, and the place of its checkpoint
+  pub resumed_is : node_resumed (course_of m) w h ≡ node_behind m group_secret h.node.id w.view w.period (place_left stopped_host) w.chosen (own_left (restores stopped_host.left).present) h.life.diary
+  resumed_is =
+      node_left m service w.view w.period w.chosen h left_host.all left_host.past stopped_host r.1.viewed r.1.begins r.1.low r.1.of left_host.snapshots (spelled-life h.life (host-fit m w i h at r).life).diary
+
+  pub resumed_on : GoesOn w.sent m w.view w.chosen h.node.id (place_left stopped_host) h.life.diary (node_resumed (course_of m) w h)
+  resumed_on =
+      subst (λ (n : Node S). GoesOn w.sent m w.view w.chosen h.node.id (place_left stopped_host) h.life.diary n) (sym resumed_is)
+      (goes_on w.sent m w.view w.period w.chosen h.node.id (place_left stopped_host) (own_left (restores stopped_host.left).present) h.life.diary left_host.diary resumed_behind none_left diary_met left_host.few.diary)
+
+  pub resumed-right : HostRight w.sent m w.view w.chosen (host_resumed h (node_resumed (course_of m) w h))
+  resumed-right = host-resumes w.sent m w.view w.chosen h (node_resumed (course_of m) w h) left_host down resumed_on (diary-few m w i h at r)
+
+  -- as many entries are restored as its devices hold
+  pub resumed_count : (node_resumed (course_of m) w h).restored ≡ length (entries_left h)
+  resumed_count =
+      resumed_on.resumed.restored_is
+      ∙ (sym (length-map (cut_at (place_left stopped_host) h.life.diary) entry_text)
+      ∙ (ap (λ (es : List (List ℕ)). length es) (sym (left_texts left_host.all left_host.past h stopped_host))
+      ∙ ap (λ (t : StoreState). length (restores (bytes_held t)).entries) (sym stopped_host.opened)))
+
+  right-resumed : WorldRight m (with_host w i (host_resumed h (node_resumed (course_of m) w h)))
+  right-resumed =
+      right-set m w i h (host_resumed h (node_resumed (course_of m) w h)) at (record { named = resumed_on.name; book = front_same (firm_of h) }) resumed-right
+      (marks-resumed m w.view w.chosen w.sent w.marked h (node_resumed (course_of m) w h) (place_left stopped_host) resumed_on.resumed.more resumed_on.resumed.book resumed_on.unmarked)
+      (λ is. subst (λ (o : Option Fetch). IsFetchMet w.sent w.marked o) (sym resumed_on.fetches) tt) r.1
+
+-- texts are met
+right-meets : {S : Type 0} (m : Meaning S) (w : World S) (texts : List (List ℕ)) → WorldRight m w → WorldRight m (meets w texts)
+right-meets m w texts r =
+    let marked : List (List ℕ) = all_marked w.sent w.marked texts in
+    let grows : (text : List ℕ) → IsTextMet w.sent w.marked text → IsTextMet w.sent marked text = met-more w.sent w.marked texts in
+    record {
+      right = r.right;
+      ids = r.ids;
+      viewed = r.viewed;
+      period_fits = r.period_fits;
+      certified = r.certified;
+      few = r.few;
+      shown = r.shown;
+      begins = r.begins;
+      low = r.low;
+      of = r.of;
+      short = r.short;
+      marks = λ goes.
+          all-marks m w.view w.chosen w.chosen w.sent w.sent w.marked marked (front-same w.chosen) grows w.hosts (r.marks (met-goes_on w.sent w.marked w.ending texts goes));
+      fetched = λ goes. all-fetched w.sent w.sent w.marked marked grows w.hosts (r.fetched (met-goes_on w.sent w.marked w.ending texts goes));
+    }
 
 -- clients
 
 -- a client that hears changes none of it
 right-hear : {S : Type 0} (m : Meaning S) (w : World S) (i : ℕ) (c : Client) (a : SignedBy Answer) (h : Heard) → WorldRight m w → WorldRight m (hearing w i c a h)
 unfolding hearing
-right-hear m w i c a h r = record { right = r.right; ids = r.ids; viewed = r.viewed; certified = r.certified; few = r.few; shown = r.shown; short = r.short }
+right-hear m w i c a h r = record { right = r.right; ids = r.ids; viewed = r.viewed; period_fits = r.period_fits; certified = r.certified; few = r.few; shown = r.shown; begins = r.begins; low = r.low; of = r.of; short = r.short; marks = r.marks; fetched = r.fetched }
 
 -- two facts that are kept, are kept together
 pub keeps-both : {S : Type 0} (course : Course S) (P Q : World S → Type 0) → Keeps course P → Keeps course Q → Keeps course (λ w. P w × Q w)
@@ -364,40 +490,78 @@ keeps-both course P Q k l =
       inject = λ w x read fine is. (k.inject w x read fine is.0, l.inject w x read fine is.1);
       declare = λ w faulty rogue ending how is. (k.declare w faulty rogue ending how is.0, l.declare w faulty rogue ending how is.1);
       same = λ w mark told is. (k.same w mark told is.0, l.same w mark told is.1);
+      meet = λ w texts on is. (k.meet w texts on is.0, l.meet w texts on is.1);
     }
 
--- each event keeps the base
-keeps-based : {S : Type 0} (m : Meaning S) → IsBrief m → Keeps (course_of m) (Based m)
-keeps-based m brief = keeps-both (course_of m) (Grounded m) Unforged (keeps-grounded m brief) (keeps-unforged (course_of m)).kept
+-- each event but a node's keeps the base
+keeps-based : {S : Type 0} (m : Meaning S) → KeepsBut (course_of m) (Based m)
+keeps-based m =
+    let k = keeps-grounded m in
+    let l = (keeps-unforged (course_of m)).kept in
+    record {
+      meet = λ w texts on is. (k.meet w texts on is.0, l.meet w texts on is.1);
+      disk = λ w i h up at is. (k.disk w i h up at is.0, l.disk w i h up at is.1);
+      crash = λ w i h left up at may is. (k.crash w i h left up at may is.0, l.crash w i h left up at may is.1);
+      hear = λ w i c x a at has read is. (k.hear w i c x a at has read is.0, l.hear w i c x a at has read is.1);
+      ask = λ w i c op at free low brief is. (k.ask w i c op at free low brief is.0, l.ask w i c op at free low brief is.1);
+      again = λ w i c q at waits is. (k.again w i c q at waits is.0, l.again w i c q at waits is.1);
+      learn = λ w i j c d at other is. (k.learn w i j c d at other is.0, l.learn w i j c d at other is.1);
+      inject = λ w x read fine is. (k.inject w x read fine is.0, l.inject w x read fine is.1);
+      declare = λ w faulty rogue ending how is. (k.declare w faulty rogue ending how is.0, l.declare w faulty rogue ending how is.1);
+      same = λ w mark told is. (k.same w mark told is.0, l.same w mark told is.1);
+    }
 
-based-resumes : {S : Type 0} (m : Meaning S) → IsBrief m → (w : World S) (i : ℕ) (h : Host S) → IsDown w h → slice_get w.hosts i ≡ Some h → ChosenRight m w
-    → Based m (with_host w i (host_resumed h (node_resumed (course_of m) w h)))
-based-resumes m brief w i h down at r = (
-  grounded-resumes m brief w i h at r.1.viewed (resumes-diary m w i h at down.0 r) (diary-decides m w i h at r) r.0.0,
-  (keeps-unforged (course_of m)).resume w i h down at r.0.1,
+-- the joined text of a plan whose parts are all there was met where an event is taken in
+taken-met : {S : Type 0} (m : Meaning S) (w : World S) (i : ℕ) (h : Host S) (event : NodeEvent) → slice_get w.hosts i ≡ Some h → MayTake w h event → ChosenRight m w
+    → IsFetchMet w.sent w.marked (takes_in h.node event).node.fetch
+taken-met {S = S} m w i h event at may r =
+    fetch-taken w.sent w.marked h.node event may.met (each_get (λ (g : Host S). IsFetchMet w.sent w.marked g.node.fetch) w.hosts i h (r.1.fetched may.on) at)
+
+-- so what a node may take over is small
+event-settles : {S : Type 0} (m : Meaning S) → IsBrief m → IsRestorable m → (w : World S) (i : ℕ) (h : Host S) (event : NodeEvent) → IsUp w h → slice_get w.hosts i ≡ Some h → MayTake w h event → ChosenRight m w
+    → Settles m (takes_in h.node event).node
+event-settles m brief service w i h event up at may r =
+    settles m w i h event may.on up.0 at (may_read w h event (grounded-reads w r.0.0) may.come) (may-have w h event may.come) (may-told w h event may.come) service r (host-right m w i h at r) (taken-met m w i h event at may r) brief
+
+-- and a node's event keeps the base
+based-event : {S : Type 0} (m : Meaning S) → IsBrief m → IsRestorable m → (w : World S) (i : ℕ) (h : Host S) (event : NodeEvent) → IsUp w h → slice_get w.hosts i ≡ Some h → MayTake w h event → ChosenRight m w
+    → Based m (stepped (course_of m) w i h (step_of m h.node event))
+based-event m brief service w i h event up at may r = (
+  grounded-event m brief w i h event at may.come (event-settles m brief service w i h event up at may r) r.0.0,
+  (keeps-unforged (course_of m)).kept.event w i h event up at may r.0.1,
 )
 
+based-resumes : {S : Type 0} (m : Meaning S) → IsBrief m → IsRestorable m → (w : World S) (i : ℕ) (h : Host S) → IsDown w h → slice_get w.hosts i ≡ Some h → ChosenRight m w
+    → Based m (with_host w i (host_resumed h (node_resumed (course_of m) w h)))
+based-resumes m brief service w i h down at r =
+    let s = stopped_host m service w i h down.0 at r in (
+      grounded-resumes m brief w i h (stated w.sent) (place_left s) (own_left (restores s.left).present) at (are_restorable m w service r.1) r.1.period_fits (resumed_is m service w i h down.0 at r)
+          (resumed_behind m service w i h down.0 at r) (none_left m service w i h down.0 at r) (own_fit m service w i h down.0 at r) r.0.0,
+      (keeps-unforged (course_of m)).resume w i h down at r.0.1,
+    )
+
 -- each event keeps the list right, but that a node goes on
-chosen-keeps : {S : Type 0} (m : Meaning S) → IsBrief m → Keeps (course_of m) (ChosenRight m)
-chosen-keeps m brief =
-    let k = keeps-based m brief in
+chosen-keeps : {S : Type 0} (m : Meaning S) → IsBrief m → IsRestorable m → Keeps (course_of m) (ChosenRight m)
+chosen-keeps m brief service =
+    let k = keeps-based m in
     record {
       event = λ w i h event up at may r. (
-        k.event w i h event up at may r.0,
-        right-event m w i h event up.0 at (may_read w h event (grounded-reads w r.0.0) may) (may-have w h event may) (may-told w h event may) r,
+        based-event m brief service w i h event up at may r,
+        right-event m service w i h event may.on up.0 at (may_read w h event (grounded-reads w r.0.0) may.come) (may-have w h event may.come) (may-told w h event may.come) (taken-met m w i h event at may r)
+            (step-fit m brief w i h event at may.come (event-settles m brief service w i h event up at may r) r.0.0.fit) r,
       );
-      disk = λ w i h up at r. (k.disk w i h up at r.0, right-called m w i h up.0 at r);
+      disk = λ w i h up at r. (k.disk w i h up at r.0, right-called m service w i h up.0 at r);
       crash = λ w i h left up at may r. (k.crash w i h left up at may r.0, right-crashed m w i h left up.0 at may r);
       hear = λ w i c x a at has read r. (k.hear w i c x a at has read r.0, right-hear m w i c a (heard w.view c a) r.1);
       ask = λ w i c op at free few short r. (
         k.ask w i c op at free few short r.0,
         right-posts m (asked_by w i c op) (from_client w.view c (ask_of c op)) (ask_shows w (signed requests group_secret c.id (request_of c op)))
-            (record { right = r.1.right; ids = r.1.ids; viewed = r.1.viewed; certified = r.1.certified; few = r.1.few; shown = r.1.shown; short = r.1.short }),
+            (record { right = r.1.right; ids = r.1.ids; viewed = r.1.viewed; period_fits = r.1.period_fits; certified = r.1.certified; few = r.1.few; shown = r.1.shown; begins = r.1.begins; low = r.1.low; of = r.1.of; short = r.1.short; marks = r.1.marks; fetched = r.1.fetched }),
       );
       again = λ w i c q at waits r. (k.again w i c q at waits r.0, right-posts m w (from_client w.view c (signed_by c q)) (ask_shows w (signed requests group_secret c.id q)) r.1);
       learn = λ w i j c d at other r. (
         k.learn w i j c d at other r.0,
-        record { right = r.1.right; ids = r.1.ids; viewed = r.1.viewed; certified = r.1.certified; few = r.1.few; shown = r.1.shown; short = r.1.short },
+        record { right = r.1.right; ids = r.1.ids; viewed = r.1.viewed; period_fits = r.1.period_fits; certified = r.1.certified; few = r.1.few; shown = r.1.shown; begins = r.1.begins; low = r.1.low; of = r.1.of; short = r.1.short; marks = r.1.marks; fetched = r.1.fetched },
       );
       inject = λ w x read fine r. (k.inject w x read fine r.0, right-posts m w (from_script x) (inject_shows w x fine r.0.0.fit.sent read) r.1);
       declare = λ w faulty rogue ending how r. (
@@ -406,18 +570,26 @@ chosen-keeps m brief =
           right = r.1.right;
           ids = r.1.ids;
           viewed = r.1.viewed;
+          period_fits = r.1.period_fits;
           certified = r.1.certified;
           few = how.few r.1.few;
           shown = shown-faulty w.faulty faulty (stated w.sent) w.hosts how.more_faulty r.1.shown;
+          begins = r.1.begins;
+          low = r.1.low;
+          of = r.1.of;
           short = r.1.short;
+          marks = λ on. r.1.marks (how.over on);
+          fetched = λ on. r.1.fetched (how.over on);
         },
       );
-      same = λ w mark told r. (k.same w mark told r.0, record { right = r.1.right; ids = r.1.ids; viewed = r.1.viewed; certified = r.1.certified; few = r.1.few; shown = r.1.shown; short = r.1.short });
+      same = λ w mark told r. (k.same w mark told r.0, record { right = r.1.right; ids = r.1.ids; viewed = r.1.viewed; period_fits = r.1.period_fits; certified = r.1.certified; few = r.1.few; shown = r.1.shown; begins = r.1.begins; low = r.1.low; of = r.1.of; short = r.1.short; marks = r.1.marks; fetched = r.1.fetched });
+      meet = λ w texts on r. (k.meet w texts on r.0, right-meets m w texts r.1);
     }
 
 -- and that, too
-pub chosen-kept : {S : Type 0} (m : Meaning S) → IsBrief m → KeepsAll (course_of m) (ChosenRight m)
-chosen-kept m brief = record { kept = chosen-keeps m brief; resume = λ w i h down at r. (based-resumes m brief w i h down at r, right-resumed m w i h down.0 at r) }
+pub chosen-kept : {S : Type 0} (m : Meaning S) → IsBrief m → IsRestorable m → KeepsAll (course_of m) (ChosenRight m)
+chosen-kept m brief service =
+    record { kept = chosen-keeps m brief service; resume = λ w i h down at r. (based-resumes m brief service w i h down at r, right-resumed m service w i h down.0 at r) }
 
 -- what is kept where what was sent is read, is kept where the list is right
 pub right-reads : {S : Type 0} (m : Meaning S) (w : World S) → ChosenRight m w → ReadsSent w
@@ -427,7 +599,7 @@ right-reads m w r = grounded-reads w r.0.0
 pub chosen-witnessed : {S : Type 0} (m : Meaning S) (w : World S) → ChosenRight m w → IsWitnessed w
 chosen-witnessed {S = S} m w r =
     record {
-      diaries = each-weaken (HostRight w.sent m w.view w.chosen) (λ (h : Host S). HasDiary h) (λ h right. record { up = right.lasts.up; down = λ down. left-restored h (right.lasts.down down) }) w.hosts r.1.right;
+      diaries = each-weaken (HostRight w.sent m w.view w.chosen) (λ (h : Host S). HasDiary h) (λ h right. has_diary right.all right.past h right.lasts) w.hosts r.1.right;
       witnessed = right-witnessed m w r.1;
       chosen = r.1.certified;
     }
@@ -435,35 +607,54 @@ chosen-witnessed {S = S} m w r =
 -- the beginning
 
 -- opened hosts are right
-hosts_right : {S : Type 0} (m : Meaning S) (view : View) (members : List ℕ) → Each (HostRight [] m view []) (hosts_from m view members)
-hosts_right m view [] = tt
-hosts_right m view (id ∷ ids) = (opened_right m view id, hosts_right m view ids)
+hosts_right : {S : Type 0} (m : Meaning S) (view : View) (period : ℕ) (members : List ℕ) → Each (HostRight [] m view []) (hosts_from m view period members)
+hosts_right m view period [] = tt
+hosts_right m view period (id ∷ ids) = (opened_right m view period id, hosts_right m view period ids)
   where
-    opened_right : {S : Type 0} (m : Meaning S) (view : View) (id : ℕ) → HostRight [] m view [] (host_of_node (opened (outset_of m view id)))
-    opened_right m view id =
+    opened_right : {S : Type 0} (m : Meaning S) (view : View) (period : ℕ) (id : ℕ) → HostRight [] m view [] (host_of_node (opened (outset_of m view period id)))
+    opened_right m view period id =
         let sound = sound_opened m group_secret id view period in
         let none : BookRight [] view [] [] =
-        none_right [] view [] (opened (outset_of m view id)).entries (record { sound = book_sound [] view (opened (outset_of m view id)) sound; within = omega arith }) in
+        none_right [] view [] (opened (outset_of m view period id)).entries (record { sound = book_sound [] view (opened (outset_of m view period id)) sound refl; within = omega arith }) in
         record {
           sound = sound;
           shared = refl;
-          stored = λ up. fits-opened m group_secret id view period;
+          all = [];
+          past = 0;
           lasts = lasts-opened m group_secret id view period;
-          order = in_order-opened m (outset_of m view id);
-          within = omega arith;
+          snapshots = tt;
+          whole = (opened (outset_of m view period id)).entries;
+          wrote = record {
+            is = λ up. refl;
+            cut = refl;
+            made = λ some. absurd (omega (arith, some));
+            right = record { sound = book_sound [] view (opened (outset_of m view period id)) sound refl; within = omega arith };
+            met = (tt, tt);
+            past = omega arith;
+            at = record { reached = omega arith; replica = refl };
+          };
           count = refl;
           places = tt;
           agrees = tt;
           earlier = tt;
           diary = none;
           aside = none;
-          few = few-opened m [] id view;
+          few = few-opened m [] id view period;
         }
 
+-- they have marked nothing, and fetch nothing
+hosts_marked : {S : Type 0} (m : Meaning S) (view : View) (period : ℕ) (members : List ℕ) → Each (HostMarks m view [] [] []) (hosts_from m view period members)
+hosts_marked m view period [] = tt
+hosts_marked m view period (id ∷ ids) = (marks-opened m view [] [] [] id view period, hosts_marked m view period ids)
+
+none_fetched : {S : Type 0} (m : Meaning S) (view : View) (period : ℕ) (members : List ℕ) → Each (λ (h : Host S). IsFetchMet [] [] h.node.fetch) (hosts_from m view period members)
+none_fetched m view period [] = tt
+none_fetched m view period (id ∷ ids) = (tt, none_fetched m view period ids)
+
 -- and are the members
-pub hosts_ids : {S : Type 0} (m : Meaning S) (view : View) (members : List ℕ) → map (λ h. h.node.id) (hosts_from m view members) ≡ members
-hosts_ids m view [] = refl
-hosts_ids m view (id ∷ ids) = ap (λ xs. id ∷ xs) (hosts_ids m view ids)
+pub hosts_ids : {S : Type 0} (m : Meaning S) (view : View) (period : ℕ) (members : List ℕ) → map (λ h. h.node.id) (hosts_from m view period members) ≡ members
+hosts_ids m view period [] = refl
+hosts_ids m view period (id ∷ ids) = ap (λ xs. id ∷ xs) (hosts_ids m view period ids)
 
 -- at first none is faulty
 none_faulty : (view : View) → too_many view [] ≡ false
@@ -474,49 +665,42 @@ none_faulty view = ap (λ (k : ℕ). nat_lt view.f k) (none_pass view.members) �
     none_pass (m ∷ ms) = none_pass ms
 
 -- a world that begins is right
-pub chosen-begun : {S : Type 0} (m : Meaning S) (view : View) → is_view view ≡ true → ChosenRight m (begun m view)
-chosen-begun m view is = (
-  (grounded-begun m view is, record { each = tt }),
+pub chosen-begun : {S : Type 0} (m : Meaning S) (g : Header) → IsHeader g → ChosenRight m (begun m g)
+chosen-begun m g is = (
+  (grounded-begun m g is, record { each = tt }),
   record {
-    right = hosts_right m view view.members;
-    ids = hosts_ids m view view.members;
-    viewed = is;
+    right = hosts_right m g.view g.period g.view.members;
+    ids = hosts_ids m g.view g.period g.view.members;
+    viewed = is.viewed;
+    period_fits = is.period_fits;
     certified = tt;
-    few = none_faulty view;
+    few = none_faulty g.view;
     shown = λ x never. absurd never;
+    begins = is.begins;
+    low = omega arith;
+    of = tt;
     short = omega arith;
+    marks = λ on. hosts_marked m g.view g.period g.view.members;
+    fetched = λ on. none_fetched m g.view g.period g.view.members;
   },
 )
 
 -- hosts stand along the list
 
 -- a host's replica is the state of a front of the list, and the batch that waits is the list's next
-host-aligned : {S : Type 0} (m : Meaning S) (w : World S) → ChosenRight m w → (h : Host S) → NodeMet (IsMet w.sent) h.node → HostRight w.sent m w.view w.chosen h
-    → Aligned m w.view w.chosen h
-host-aligned {S = S} m w r h met right =
-    let ds : List Batch = decided_of 0 h.node.entries in
-    let own : take (length ds) w.chosen ≡ ds = book-front m w h.node.entries r met.entries (own_right w.sent m w.view w.chosen h right) in
-    let place : h.node.replica.place ≤ length ds = delivered-within h.node right.order in
-    record {
-      within = omega (arith, place, right.within);
-      replica = (from_first m w.view h.node right.order).replica ∙ ap (λ bs. state m w.view bs) (front-take ds w.chosen h.node.replica.place own place);
-      waiting = λ batch at. waiting-at m w.view w.chosen h.node batch right.order own at;
-    }
-  where
-    delivered-within : (n : Node S) → DeliversInOrder m (empty m w.view) n → n.replica.place ≤ length (decided_of 0 n.entries)
-    delivered-within n d = subst (λ (k : ℕ). n.replica.place ≤ k) (sym (from_first m w.view n d).count) (at_most (is_some n.waiting) n.replica.place)
-      where
-        at_most : (b : Bool) (k : ℕ) → k ≤ cond b (k + 1) k
-        at_most true k = omega arith
-        at_most false k = omega arith
+host-aligned : {S : Type 0} (m : Meaning S) (w : World S) → ChosenRight m w → (h : Host S) → HostRight w.sent m w.view w.chosen h → Aligned m w.view w.chosen h
+host-aligned m w r h right = record {
+  within = right.wrote.at.reached;
+  replica = right.wrote.at.replica;
+  waiting = λ batch at.
+      decided_at w.chosen right.whole (next_place h.node) batch (book-along m w right.whole r right.wrote.met right.wrote.right)
+      (waiting_decided (stated w.sent) w.view right.whole h.node batch right.sound right.wrote.cut at);
+}
 
 -- all hosts stand along the list
 pub chosen-aligned : {S : Type 0} (m : Meaning S) (w : World S) → ChosenRight m w → AllAligned m w
 chosen-aligned {S = S} m w r =
-    record {
-      hosts = each_both (HostMet (IsMet w.sent)) (HostRight w.sent m w.view w.chosen) (Aligned m w.view w.chosen)
-          (λ h met right. host-aligned m w r h met.node right) w.hosts r.0.0.hosts r.1.right;
-    }
+    record { hosts = each-weaken (HostRight w.sent m w.view w.chosen) (Aligned m w.view w.chosen) (λ h right. host-aligned m w r h right) w.hosts r.1.right }
 
 -- a batch that waits is the list's at its place
 next_is : (chosen : List Batch) (place : ℕ) (waiting : Option Batch) → ((batch : Batch) → waiting ≡ Some batch → batch_at chosen place ≡ Some batch) → IsNext chosen place waiting
@@ -540,6 +724,6 @@ chosen-prefix m w r =
 -- throughout a script
 
 -- after any lines, what members have stated is witnessed, and each chosen batch is certified
-pub witnessed-after : {S : Type 0} (m : Meaning S) → IsBrief m → (view : View) (ls : List Line) → is_view view ≡ true → IsWitnessed (world_after (course_of m) (begun m view) ls)
-witnessed-after {S = S} m brief view ls is =
-    chosen-witnessed m (world_after (course_of m) (begun m view) ls) (keeps-world_after (course_of m) (ChosenRight m) (chosen-kept m brief) (begun m view) ls (chosen-begun m view is))
+pub witnessed-after : {S : Type 0} (m : Meaning S) → IsBrief m → IsRestorable m → (g : Header) (ls : List Line) → IsHeader g → IsWitnessed (world_after (course_of m) (begun m g) ls)
+witnessed-after {S = S} m brief service g ls is =
+    chosen-witnessed m (world_after (course_of m) (begun m g) ls) (keeps-world_after (course_of m) (ChosenRight m) (chosen-kept m brief service) (begun m g) ls (chosen-begun m g is))

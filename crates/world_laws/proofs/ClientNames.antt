@@ -2,7 +2,6 @@
 use Rattle.std.proofs.Common.{◌≡◌, ℕ, zero, suc, ◌+◌, List, [], ◌∷◌, refl, ap, ◌∙◌, sym, Some}
 use Rattle.node_rules.specs.Nodes.{view_of}
 use Rattle.std.specs.Prelude.{map, slice_get, slice_set}
-use Rattle.smart_base.specs.Views.{View}
 use Rattle.smart_statements.specs.Forms.{SignedBy}
 use Rattle.smart_statements.specs.declared.statement.Answer.{Answer}
 use Rattle.smart_service.specs.Services.{Meaning}
@@ -19,6 +18,7 @@ use Rattle.world_rules.specs.declared.message.Sent.{Sent}
 use Rattle.world_laws.specs.Promises.{numbers_from}
 use Rattle.world_laws.proofs.Keeps.{ask_of, asked_by, by-posts, KeepsAll, keeps-world_after, signed_by, from_node, from_client, from_script, keeps-sends_all}
 use Rattle.agreement_laws.proofs.Lists.{some_equal}
+use Rattle.world_rules.specs.declared.line.Header.{Header}
 
 -- the numbers of clients
 abbrev numbers : List Client → List ℕ
@@ -65,6 +65,7 @@ keeps-numbers course all =
         inject = λ w x read fine is. ap numbers (clients-posts w (from_script x)) ∙ is;
         declare = λ w faulty rogue ending how is. is;
         same = λ w mark told is. is;
+        meet = λ w texts on is. is;
       };
       resume = λ w i h down at is. is;
     }
@@ -76,5 +77,5 @@ numbers-begun zero i = refl
 numbers-begun (suc count) i = ap (λ (ks : List ℕ). i ∷ ks) (numbers-begun count (i + 1))
 
 -- after any lines of any script there is one client of each number
-pub numbers-after : {S : Type 0} (m : Meaning S) (view : View) (ls : List Line) → map (λ c. c.id) (world_after (course_of m) (begun m view) ls).clients ≡ numbers_from 1025 0
-numbers-after {S = S} m view ls = keeps-world_after (course_of m) (λ (w : World S). numbers w.clients ≡ numbers_from 1025 0) (keeps-numbers (course_of m) (numbers_from 1025 0)) (begun m view) ls (numbers-begun 1025 0)
+pub numbers-after : {S : Type 0} (m : Meaning S) (g : Header) (ls : List Line) → map (λ c. c.id) (world_after (course_of m) (begun m g) ls).clients ≡ numbers_from 1025 0
+numbers-after {S = S} m g ls = keeps-world_after (course_of m) (λ (w : World S). numbers w.clients ≡ numbers_from 1025 0) (keeps-numbers (course_of m) (numbers_from 1025 0)) (begun m g) ls (numbers-begun 1025 0)

@@ -9,27 +9,30 @@ use Rattle.smart_statements.specs.declared.entry.NodeEvent.{NodeEvent}
 use Rattle.smart_statements.specs.declared.entry.NodeEvent.TheVariants.{Arrive, Tick, Deliver, Firm}
 use Rattle.smart_service.specs.Services.{Meaning}
 use Rattle.node_rules.specs.Nodes.{Node, next_place, view_of}
-use Rattle.node_rules.specs.Steps.{Outcome, step_of, leaving, opened, outset}
+use Rattle.node_rules.specs.Steps.{Outcome, Outset, step_of, leaving, opened}
 use Rattle.node_rules.specs.declared.node.Held.{Held}
 use Rattle.node_rules.specs.Kept.{trimmed, core_step}
 use Rattle.node_rules.specs.Nodes as nodes
 use Rattle.kept_arrivals.proofs.Steps.{core_step_trimmed, opened_stands}
 use Rattle.store_laws.specs.States.{is_due}
-use Rattle.store_laws.specs.Unswitched.{never}
-use Rattle.store_laws.specs.Restored.{Images, restores}
-use Rattle.world_rules.specs.Crashes.{images_left, wrong_images, bytes_held}
+use Rattle.store_laws.specs.Stops.{is_installed}
+use Rattle.store_laws.specs.Restored.{Images}
+use Rattle.world_rules.specs.Crashes.{images_left, wrong_images}
 use Rattle.world_rules.specs.declared.crash.Image.{Image}
 use Rattle.world_rules.specs.declared.crash.Patch.{Patch}
 use Rattle.world_rules.specs.declared.crash.NotAnImage.{NotAnImage}
 use Rattle.vote_book.specs.declared.entry.LogEntry.{LogEntry}
 use Rattle.smart_service.specs.declared.replica.Replica.{Replica}
-use Rattle.replica_rules.specs.Replicas.{state}
-use Rattle.node_rules.specs.Reopening.{stopped, reopened, damaged, entries_in, decided_of}
+use Rattle.replica_rules.specs.Replicas.{after_batches}
+use Rattle.node_rules.specs.Reopening.{stopped, reopened, entries_in, decided_of, damage_of, outset_from, reopened_from}
+use Rattle.node_rules.specs.declared.node.Parts.{Parts}
+use Rattle.node_rules.specs.Tails as tails
 use Rattle.node_laws.proofs.Reopened.{reopened_is}
 use Rattle.world_rules.specs.Repeats.{repeated, turns, until_rest, each_from}
-use Rattle.world_rules.specs.Secrets.{group_secret, period}
-use Rattle.world_rules.specs.Premises.{met, texts_in, collides, too_many, is_forged, bytes_of}
-use Rattle.world_rules.specs.Worlds.{Host, World, course_of, core_course, is_up, at_host, telling, host_crashed, crashes_with, host_crashes, crashes, crash_all, host_resumed, resumes_from, host_resumes, resumes, restart_all, restart_at, restart_member, sends_all, told_drop, told_fired, chosen_with, host_after, stepped, host_takes, node_takes, disk_called, hears_firm, host_calls, calls_disk, takes_due, host_of_node, settle_once, settle, settle_all, gives, hearing, client_hears, hears_bytes, client_takes, client_asks, ask_found, asks, client_repeats, repeat_found, repeats, learns, learns_from, tells, goes, flow_sent, flow_once, flows, hosts_from, begun, is_listed, where_listed, at_listed, each_listed, host_index, at_index, at_member, arrives, arrives_at, sent_arrives, give_number, told_idle, telling_all, host_tries, tries_at, tries_each, give_one, shown_host, shown_client, shows, posts, is_gone, is_rogue, settle_present, declares_faulty, declares_rogue, injects_content, injects, is_halted, reaches, outset_of}
+use Rattle.world_rules.specs.Secrets.{group_secret}
+use Rattle.world_rules.specs.Premises.{texts_in, collides, texts_met, too_many, is_forged, bytes_of}
+use Rattle.world_rules.specs.Worlds.{Host, World, course_of, core_course, is_up, at_host, telling, host_crashed, crashes_with, host_crashes, crashes, crash_all, parts_held, host_resumed, resumes_from, host_resumes, resumes, restart_all, restart_at, restart_member, sends_all, told_drop, told_fired, chosen_with, host_after, stepped, host_takes, node_takes, disk_called, hears_firm, host_calls, calls_disk, takes_due, host_of_node, settle_once, settle, settle_all, gives, hearing, client_hears, hears_bytes, client_takes, client_asks, ask_found, asks, client_repeats, repeat_found, repeats, learns, learns_from, tells, goes, flow_sent, flow_once, flows, hosts_from, begun, is_listed, where_listed, at_listed, each_listed, host_index, at_index, at_member, arrives, arrives_at, sent_arrives, give_number, told_idle, telling_all, host_tries, tries_at, tries_each, give_one, shown_host, shown_client, shows, posts, is_gone, is_rogue, settle_present, declares_faulty, declares_rogue, injects_content, injects, is_halted, reaches, outset_of, meets, snapshot_in, steps_unless, takes_met}
+use Rattle.node_rules.specs.Transfers.{completed_by}
 use Rattle.world_rules.specs.Plays.{has_member, has_party, is_there, line_played, rested, world_after, lines_told}
 use Rattle.client_quorum.specs.declared.client.Client.{Client}
 use Rattle.world_rules.specs.declared.message.Sent.{Sent}
@@ -48,6 +51,7 @@ use Rattle.std.proofs.lemmas.List.{length-map}
 use Rattle.client_quorum.specs.Clients.{reply_read}
 use Rattle.smart_statements.specs.Forms.{SignedBy}
 use Rattle.smart_statements.specs.declared.statement.Answer.{Answer}
+use Rattle.world_rules.specs.declared.line.Header.{Header}
 
 -- lists, choices and repeated steps
 
@@ -91,7 +95,7 @@ each_from_same t f g same (suc k) i x = ap (λ y. each_from f k (i + 1) y) (same
 posts_same : {S : Type 0} (w : World S) (s : Sent) → posts (trimmed_world w) s ≡ trimmed_world (posts w s)
 unfolding posts trimmed_world
 posts_same w s =
-    choice_same trimmed_world (collides (met w.sent) (texts_in s.content)) _ _ _ _ refl (choice_same trimmed_world (nat_lt (length w.sent) (2 ^ 24)) _ _ _ _ refl refl)
+    choice_same trimmed_world (collides (texts_met w.sent w.marked) (texts_in s.content)) _ _ _ _ refl (choice_same trimmed_world (nat_lt (length w.sent) (2 ^ 24)) _ _ _ _ refl refl)
 
 -- many messages leave
 sends_all_same : {S : Type 0} (id : ℕ) (view : View) (w : World S) (held : List Held) → sends_all id view (trimmed_world w) held ≡ trimmed_world (sends_all id view w held)
@@ -118,13 +122,34 @@ stepped_same : {S : Type 0} (m : Meaning S) (w : World S) (i : ℕ) (h : Host S)
     → stepped (core_course m) (trimmed_world w) i (trimmed_host h) (trimmed_outcome o) ≡ trimmed_world (stepped (course_of m) w i h o)
 unfolding stepped trimmed_world trimmed_host trimmed nodes.regency_of
 stepped_same {S} m w i h o =
-    let behind : List (Host S) → World S = λ hosts. record w {
+    let behind : List (Host S) → World S = λ hosts.
+    meets
+    (record w {
       hosts = hosts;
       chosen = chosen_with w.chosen (next_place o.node) o.node.waiting;
       told = w.told ++ (told_drop h.node.id o.dropped ++ flat_map (told_fired h.node.id) o.fired);
-    } in
+    })
+    (flat_map snapshot_in o.fired) in
     ap (λ hosts. sends_all h.node.id (view_of o.node) (behind hosts) (leaving o.node.firm o.node.held)) (map_set trimmed_host w.hosts i (host_after (course_of m) h o))
     ∙ sends_all_same h.node.id (view_of o.node) (behind (slice_set w.hosts i (host_after (course_of m) h o))) (leaving o.node.firm o.node.held)
+
+-- the text that an event completes is the same
+completed_same : {S : Type 0} (n : Node S) (event : NodeEvent) → completed_by (trimmed n) event ≡ completed_by n event
+unfolding completed_by trimmed
+completed_same n (Arrive bytes) = refl
+completed_same n Tick = refl
+completed_same n Deliver = refl
+completed_same n (Firm count) = refl
+
+-- it is met, and then a host takes the event
+takes_met_same : {S : Type 0} (m : Meaning S) (i : ℕ) (event : NodeEvent) (w : World S) (h : Host S)
+    → takes_met (core_course m) i event (trimmed_world w) (trimmed_host h) ≡ trimmed_world (takes_met (course_of m) i event w h)
+unfolding trimmed_host trimmed_world
+takes_met_same {S} m i event w h =
+    let v : World S = meets w (completed_by h.node event) in
+    ap (λ (texts : List (List ℕ)). steps_unless (core_course m) i event (meets (trimmed_world w) texts) (trimmed_host h)) (completed_same h.node event)
+    ∙ choice_same trimmed_world (is_halted v) _ _ _ _ refl
+    (ap (λ o. stepped (core_course m) (trimmed_world v) i (trimmed_host h) o) (core_step_same m h.node event) ∙ stepped_same m v i h (step_of m h.node event))
 
 -- a host that is found takes an event
 host_takes_same : {S : Type 0} (m : Meaning S) (i : ℕ) (event : NodeEvent) (w : World S) (found : Option (Host S))
@@ -132,8 +157,7 @@ host_takes_same : {S : Type 0} (m : Meaning S) (i : ℕ) (event : NodeEvent) (w 
 unfolding trimmed_host trimmed_world trimmed nodes.regency_of
 host_takes_same m i event w None = refl
 host_takes_same m i event w (Some h) =
-    choice_same trimmed_world (not (is_up w h)) _ _ _ _ refl
-    (ap (λ o. stepped (core_course m) (trimmed_world w) i (trimmed_host h) o) (core_step_same m h.node event) ∙ stepped_same m w i h (step_of m h.node event))
+    choice_same trimmed_world (not (is_up w h)) _ _ _ _ refl (takes_met_same m i event w h)
 
 -- the node at an index takes an event
 node_takes_same : {S : Type 0} (m : Meaning S) (i : ℕ) (event : NodeEvent) (w : World S)
@@ -156,11 +180,11 @@ hears_firm_same {S} m i w h =
 -- the store of a host that is found makes a call, if there is one
 host_calls_same : {S : Type 0} (m : Meaning S) (i : ℕ) (w : World S) (found : Option (Host S))
     → host_calls (core_course m) i (trimmed_world w) (option_map trimmed_host found) ≡ trimmed_world (host_calls (course_of m) i w found)
-unfolding disk_called trimmed_host trimmed_world trimmed nodes.regency_of
+unfolding disk_called trimmed_host trimmed_world trimmed nodes.regency_of tails.tail_of
 host_calls_same m i w None = refl
 host_calls_same m i w (Some h) =
     choice_same trimmed_world (not (is_up w h)) _ _ _ _ refl
-    (choice_same trimmed_world (is_due never h.store) _ _ _ _ (hears_firm_same m i w (disk_called (course_of m) h)) refl)
+    (choice_same trimmed_world (is_due is_installed h.store) _ _ _ _ (hears_firm_same m i w (disk_called (course_of m) h)) refl)
 
 -- the store at an index does
 calls_disk_same : {S : Type 0} (m : Meaning S) (i : ℕ) (w : World S) → calls_disk (core_course m) i (trimmed_world w) ≡ trimmed_world (calls_disk (course_of m) i w)
@@ -175,7 +199,7 @@ takes_due_same : {S : Type 0} (m : Meaning S) (i : ℕ) (w : World S) (found : O
 unfolding trimmed_host trimmed nodes.regency_of
 takes_due_same m i w None = refl
 takes_due_same m i w (Some h) =
-    choice_same trimmed_world (is_due never h.store) _ _ _ _ (calls_disk_same m i w) (choice_same trimmed_world (is_some h.node.waiting) _ _ _ _ (node_takes_same m i Deliver w) refl)
+    choice_same trimmed_world (is_due is_installed h.store) _ _ _ _ (calls_disk_same m i w) (choice_same trimmed_world (is_some h.node.waiting) _ _ _ _ (node_takes_same m i Deliver w) refl)
 
 -- a node settles once
 settle_once_same : {S : Type 0} (m : Meaning S) (i : ℕ) (w : World S) → settle_once (core_course m) i (trimmed_world w) ≡ trimmed_world (settle_once (course_of m) i w)
@@ -481,24 +505,27 @@ crash_all_same : {S : Type 0} (m : Meaning S) (image : Image) (w : World S) → 
 crash_all_same m image w = each_host_same (crashes (core_course m) image []) (crashes (course_of m) image []) (crashes_same m image []) w
 
 -- a node that goes on has nothing that it does not need: nothing but the book is left of the life before
-trimmed-begins : {S : Type 0} (m : Meaning S) (secret : List ℕ) (id : ℕ) (view : View) (period : ℕ)
-    → trimmed (record (opened (outset m secret id view period)) { behind = true }) ≡ record (opened (outset m secret id view period)) { behind = true }
+trimmed-begins : {S : Type 0} (o : Outset S) → trimmed (record (opened o) { behind = true }) ≡ record (opened o) { behind = true }
 unfolding trimmed
-trimmed-begins m secret id view period = refl
+trimmed-begins o = refl
 
-trimmed-goes_on : {S : Type 0} (m : Meaning S) (secret : List ℕ) (id : ℕ) (view : View) (period : ℕ) (es : List LogEntry) (r : Replica S) (count : ℕ)
-    → trimmed (record (stopped (outset m secret id view period)) { entries = es; replica = r; restored = count; firm = count })
-    ≡ record (stopped (outset m secret id view period)) { entries = es; replica = r; restored = count; firm = count }
+trimmed-goes_on : {S : Type 0} (o : Outset S) (es : List LogEntry) (r : Replica S) (count : ℕ)
+    → trimmed (record (stopped o) { entries = es; replica = r; restored = count; firm = count }) ≡ record (stopped o) { entries = es; replica = r; restored = count; firm = count }
 unfolding trimmed
-trimmed-goes_on m secret id view period es r count = refl
+trimmed-goes_on o es r count = refl
 
-trimmed-reopened : {S : Type 0} (m : Meaning S) (secret : List ℕ) (id : ℕ) (view : View) (period : ℕ) (es : List LogEntry)
-    → trimmed (reopened m (outset m secret id view period) es) ≡ reopened m (outset m secret id view period) es
+trimmed-reopened : {S : Type 0} (m : Meaning S) (o : Outset S) (es : List LogEntry) → trimmed (reopened m o es) ≡ reopened m o es
 unfolding reopened
-trimmed-reopened m secret id view period [] = trimmed-begins m secret id view period
-trimmed-reopened m secret id view period (e ∷ es) =
-    let is = reopened_is m (outset m secret id view period) e es in
-    ap (λ n. trimmed n) is ∙ (trimmed-goes_on m secret id view period (e ∷ es) (state m view (decided_of 0 (e ∷ es))) (length (e ∷ es)) ∙ sym is)
+trimmed-reopened m o [] = trimmed-begins o
+trimmed-reopened m o (e ∷ es) =
+    let is = reopened_is m o e es in
+    ap (λ n. trimmed n) is ∙ (trimmed-goes_on o (e ∷ es) (after_batches m o.replica (decided_of o.replica.place (e ∷ es))) (length (e ∷ es)) ∙ sym is)
+
+-- from whatever its devices hold
+trimmed-from : {S : Type 0} (m : Meaning S) (secret : List ℕ) (id : ℕ) (view : View) (period : ℕ) (parts : Parts)
+    → trimmed (reopened_from m secret id view period parts) ≡ reopened_from m secret id view period parts
+unfolding reopened_from
+trimmed-from m secret id view period parts = trimmed-reopened m (outset_from m secret id view period parts.snapshot) (entries_in parts.entries)
 
 -- the world in which a node goes on
 abbrev going_on : {S : Type 0} → World S → ℕ → Host S → ℕ → Node S → World S
@@ -513,13 +540,13 @@ going_on_same {S} w i h count n same =
     ap (λ k. telling (record w { hosts = slice_set (map trimmed_host w.hosts) i (left k) }) line) (sym same)
     ∙ ap (λ (hosts : List (Host S)). telling (record w { hosts = hosts }) line) (map_set trimmed_host w.hosts i (host_resumed h n))
 
-resumes_from_same : {S : Type 0} (m : Meaning S) (i : ℕ) (w : World S) (h : Host S) (restored : List (List ℕ)) (wrong : Option ℕ)
-    → resumes_from (core_course m) i (trimmed_world w) (trimmed_host h) restored wrong ≡ trimmed_world (resumes_from (course_of m) i w h restored wrong)
+resumes_from_same : {S : Type 0} (m : Meaning S) (i : ℕ) (w : World S) (h : Host S) (parts : Parts) (wrong : Option ℕ)
+    → resumes_from (core_course m) i (trimmed_world w) (trimmed_host h) parts wrong ≡ trimmed_world (resumes_from (course_of m) i w h parts wrong)
 unfolding trimmed_host trimmed_world trimmed nodes.regency_of
-resumes_from_same m i w h restored None =
-    let n : Node _ = reopened m (outset_of m w.view h.node.id) (entries_in restored) in
-    going_on_same w i h (length restored) n (trimmed-reopened m group_secret h.node.id w.view period (entries_in restored))
-resumes_from_same m i w h restored (Some entry) = refl
+resumes_from_same m i w h parts None =
+    let n : Node _ = reopened_from m group_secret h.node.id w.view w.period parts in
+    going_on_same w i h (length parts.entries) n (trimmed-from m group_secret h.node.id w.view w.period parts)
+resumes_from_same m i w h parts (Some part) = refl
 
 -- a host that is found goes on, if its member has crashed
 host_resumes_same : {S : Type 0} (m : Meaning S) (i : ℕ) (w : World S) (found : Option (Host S))
@@ -527,8 +554,8 @@ host_resumes_same : {S : Type 0} (m : Meaning S) (i : ℕ) (w : World S) (found 
 unfolding trimmed_host trimmed_world trimmed nodes.regency_of
 host_resumes_same m i w None = refl
 host_resumes_same m i w (Some h) =
-    let restored : List (List ℕ) = (restores (bytes_held h.store)).entries in
-    choice_same trimmed_world (h.up || is_gone w h.node.id) _ _ _ _ refl (resumes_from_same m i w h restored (damaged group_secret 0 w.view restored))
+    let parts : Parts = parts_held h in
+    choice_same trimmed_world (h.up || is_gone w h.node.id) _ _ _ _ refl (resumes_from_same m i w h parts (damage_of m group_secret w.view parts))
 
 resumes_same : {S : Type 0} (m : Meaning S) (i : ℕ) (w : World S) → resumes (core_course m) i (trimmed_world w) ≡ trimmed_world (resumes (course_of m) i w)
 unfolding resumes trimmed_world
@@ -674,6 +701,7 @@ pub record Beside {S : Type 0} (cores w : World S) : Type 0 where
   pub view : cores.view ≡ w.view
   pub clients : cores.clients ≡ w.clients
   pub sent : cores.sent ≡ w.sent
+  pub marked : cores.marked ≡ w.marked
   pub mark : cores.mark ≡ w.mark
   pub chosen : cores.chosen ≡ w.chosen
   pub accepted : cores.accepted ≡ w.accepted
@@ -685,7 +713,7 @@ pub record Beside {S : Type 0} (cores w : World S) : Type 0 where
 -- it is what the world of the nodes has
 pub trimmed_beside : {S : Type 0} (w : World S) → Beside (trimmed_world w) w
 unfolding trimmed_world
-trimmed_beside w = record { view = refl; clients = refl; sent = refl; mark = refl; chosen = refl; accepted = refl; told = refl; faulty = refl; rogue = refl; ending = refl }
+trimmed_beside w = record { view = refl; clients = refl; sent = refl; marked = refl; mark = refl; chosen = refl; accepted = refl; told = refl; faulty = refl; rogue = refl; ending = refl }
 
 -- what the lines of a script tell
 lines_told_same : {S : Type 0} (m : Meaning S) (w : World S) (ls : List Line) → lines_told (core_course m) (trimmed_world w) ls ≡ lines_told (course_of m) w ls
@@ -699,22 +727,22 @@ lines_told_same m w (l ∷ ls) =
 -- the beginning
 
 -- nothing that was kept is dropped at the beginning
-hosts_from_same : {S : Type 0} (m : Meaning S) (view : View) (ids : List ℕ) → map trimmed_host (hosts_from m view ids) ≡ hosts_from m view ids
+hosts_from_same : {S : Type 0} (m : Meaning S) (view : View) (period : ℕ) (ids : List ℕ) → map trimmed_host (hosts_from m view period ids) ≡ hosts_from m view period ids
 unfolding trimmed_host
-hosts_from_same m view [] = refl
-hosts_from_same m view (id ∷ ids) =
-    ap (λ n. record (host_of_node (opened (outset_of m view id))) { node = n } ∷ map trimmed_host (hosts_from m view ids)) (sym (opened_stands (outset_of m view id)).same)
-    ∙ ap (λ hosts. host_of_node (opened (outset_of m view id)) ∷ hosts) (hosts_from_same m view ids)
+hosts_from_same m view period [] = refl
+hosts_from_same m view period (id ∷ ids) =
+    ap (λ n. record (host_of_node (opened (outset_of m view period id))) { node = n } ∷ map trimmed_host (hosts_from m view period ids)) (sym (opened_stands (outset_of m view period id)).same)
+    ∙ ap (λ hosts. host_of_node (opened (outset_of m view period id)) ∷ hosts) (hosts_from_same m view period ids)
 
 -- the first world is its own world of cores
-pub begun_same : {S : Type 0} (m : Meaning S) (view : View) → trimmed_world (begun m view) ≡ begun m view
+pub begun_same : {S : Type 0} (m : Meaning S) (g : Header) → trimmed_world (begun m g) ≡ begun m g
 unfolding trimmed_world
-begun_same m view = ap (λ hosts. record (begun m view) { hosts = hosts }) (hosts_from_same m view view.members)
+begun_same m g = ap (λ hosts. record (begun m g) { hosts = hosts }) (hosts_from_same m g.view g.period g.view.members)
 
 -- all lines of a script, from the beginning
-pub core_world : {S : Type 0} (m : Meaning S) (view : View) (ls : List Line) → world_after (core_course m) (begun m view) ls ≡ trimmed_world (world_after (course_of m) (begun m view) ls)
-core_world m view ls = ap (λ w. world_after (core_course m) w ls) (sym (begun_same m view)) ∙ world_after_same m (begun m view) ls
+pub core_world : {S : Type 0} (m : Meaning S) (g : Header) (ls : List Line) → world_after (core_course m) (begun m g) ls ≡ trimmed_world (world_after (course_of m) (begun m g) ls)
+core_world m g ls = ap (λ w. world_after (core_course m) w ls) (sym (begun_same m g)) ∙ world_after_same m (begun m g) ls
 
 -- what all lines of a script tell, from the beginning
-pub core_told : {S : Type 0} (m : Meaning S) (view : View) (ls : List Line) → lines_told (core_course m) (begun m view) ls ≡ lines_told (course_of m) (begun m view) ls
-core_told m view ls = ap (λ w. lines_told (core_course m) w ls) (sym (begun_same m view)) ∙ lines_told_same m (begun m view) ls
+pub core_told : {S : Type 0} (m : Meaning S) (g : Header) (ls : List Line) → lines_told (core_course m) (begun m g) ls ≡ lines_told (course_of m) (begun m g) ls
+core_told m g ls = ap (λ w. lines_told (core_course m) w ls) (sym (begun_same m g)) ∙ lines_told_same m (begun m g) ls

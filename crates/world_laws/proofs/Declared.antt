@@ -1,7 +1,7 @@
 -- Faulty and rogue are those that lines declare.
 use Rattle.std.proofs.Common.{◌≡◌, ℕ, ◌++◌, true, false, List, [], ◌∷◌, refl, sym, Option, Some, None, is_some, inl, inr, ◌⊎◌, subst, append-nil, append_assoc, take}
 use Rattle.node_rules.specs.Nodes.{view_of}
-use Rattle.smart_base.specs.Views.{View}
+use Rattle.std.specs.List.{flat_map}
 use Rattle.smart_statements.specs.Forms.{SignedBy}
 use Rattle.smart_statements.specs.declared.statement.Answer.{Answer}
 use Rattle.smart_service.specs.Services.{Meaning}
@@ -11,7 +11,7 @@ use Rattle.client_quorum.specs.declared.client.Client.{Client}
 use Rattle.client_quorum.specs.declared.client.Heard.{Heard}
 use Rattle.world_rules.specs.Clients.{heard}
 use Rattle.world_rules.specs.Premises.{is_among, too_many}
-use Rattle.world_rules.specs.Worlds.{Course, course_of, Host, World, posts, stepped, hearing, is_gone, is_rogue, declares_faulty, declares_rogue, begun, is_halted}
+use Rattle.world_rules.specs.Worlds.{Course, course_of, Host, World, posts, snapshot_in, stepped, hearing, is_gone, is_rogue, declares_faulty, declares_rogue, begun, is_halted}
 use Rattle.world_rules.specs.Plays.{line_played, rested, world_after}
 use Rattle.world_rules.specs.declared.line.Line.{Line}
 use Rattle.world_rules.specs.declared.line.Line.TheVariants as lines
@@ -20,8 +20,10 @@ use Rattle.world_rules.specs.declared.message.Ending.TheVariants.{Premise}
 use Rattle.world_rules.specs.declared.message.Premise.TheVariants.{TooManyFaulty}
 use Rattle.world_rules.specs.declared.message.Sent.{Sent}
 use Rattle.world_laws.specs.Promises.{AreDeclared, world_at}
+use Rattle.world_laws.proofs.Meeting.{met-goes_on}
 use Rattle.world_laws.proofs.Keeps.{IsCalm, KeepsCalmLives, calm-line_played, ask_of, asked_by, by-posts-ended, signed_by, from_node, from_client, from_script, keeps-sends_all}
 use Rattle.agreement_laws.proofs.Lists.{among_left, among_right, among_either, among_number, number_among, either, either_by}
+use Rattle.world_rules.specs.declared.line.Header.{Header}
 
 -- numbers
 
@@ -118,7 +120,7 @@ stays-stepped : {S : Type 0} (course : Course S) (faulty rogue : List ℕ) (endi
 unfolding stepped
 stays-stepped {S = S} course faulty rogue ending w i h o is =
     keeps-sends_all (λ (v : World S). Stays faulty rogue ending v) h.node.id (view_of o.node) (λ v held stays. stays-posts faulty rogue ending v (from_node h.node.id (view_of o.node) held) stays) _ (leaving o.node.firm o.node.held)
-    (record { faulty_is = is.faulty_is; rogue_is = is.rogue_is; on = is.on })
+    (record { faulty_is = is.faulty_is; rogue_is = is.rogue_is; on = λ on. is.on (met-goes_on w.sent w.marked w.ending (flat_map snapshot_in o.fired) on) })
 
 stays-hearing : {S : Type 0} (faulty rogue : List ℕ) (ending : Option Ending) (w : World S) (i : ℕ) (c : Client) (a : SignedBy Answer) (h : Heard) → Stays faulty rogue ending w
     → Stays faulty rogue ending (hearing w i c a h)
@@ -139,6 +141,7 @@ keeps-stays course faulty rogue ending =
         inject = λ w x on read fine is. stays-posts faulty rogue ending w (from_script x) is;
         end = λ w other on is. record { faulty_is = is.faulty_is; rogue_is = is.rogue_is; on = λ none. absurd (ended other none) };
         mark = λ w s on at is. record { faulty_is = is.faulty_is; rogue_is = is.rogue_is; on = is.on };
+        meet = λ w texts on is. record { faulty_is = is.faulty_is; rogue_is = is.rogue_is; on = λ goes. is.on (met-goes_on w.sent w.marked w.ending texts goes) };
         tell = λ w line aside is. record { faulty_is = is.faulty_is; rogue_is = is.rogue_is; on = is.on };
       };
       crash = λ w i h left on up at may is. record { faulty_is = is.faulty_is; rogue_is = is.rogue_is; on = is.on };
@@ -221,15 +224,15 @@ declared-after {S = S} course played w (l ∷ ls) is =
     subst (λ (all : List Line). Declared all (world_after course w (l ∷ ls))) (append_assoc played (l ∷ []) ls) (declared-after course (played ++ l ∷ []) (rested v) ls here)
 
 -- after any lines of any script
-declared-begun : {S : Type 0} (m : Meaning S) (view : View) (ls : List Line) → Declared ls (world_after (course_of m) (begun m view) ls)
-declared-begun m view ls =
-    declared-after (course_of m) [] (begun m view) ls (record { only = λ id among. absurd (none id among); all = λ on id there. absurd there }, record { only = λ id among. absurd (none id among); all = λ on id there. absurd there })
+declared-begun : {S : Type 0} (m : Meaning S) (g : Header) (ls : List Line) → Declared ls (world_after (course_of m) (begun m g) ls)
+declared-begun m g ls =
+    declared-after (course_of m) [] (begun m g) ls (record { only = λ id among. absurd (none id among); all = λ on id there. absurd there }, record { only = λ id among. absurd (none id among); all = λ on id there. absurd there })
   where
     none : (id : ℕ) → false ≡ true → ⊥
     none id same = cc
 
-pub faulty-declared : {S : Type 0} (m : Meaning S) (view : View) (ls : List Line) (k : ℕ) → AreDeclared (λ member. lines.Faulty member) (take k ls) (world_at m view ls k).ending (world_at m view ls k).faulty
-faulty-declared m view ls k = (declared-begun m view (take k ls)).0
+pub faulty-declared : {S : Type 0} (m : Meaning S) (g : Header) (ls : List Line) (k : ℕ) → AreDeclared (λ member. lines.Faulty member) (take k ls) (world_at m g ls k).ending (world_at m g ls k).faulty
+faulty-declared m g ls k = (declared-begun m g (take k ls)).0
 
-pub rogue-declared : {S : Type 0} (m : Meaning S) (view : View) (ls : List Line) (k : ℕ) → AreDeclared (λ client. lines.Rogue client) (take k ls) (world_at m view ls k).ending (world_at m view ls k).rogue
-rogue-declared m view ls k = (declared-begun m view (take k ls)).1
+pub rogue-declared : {S : Type 0} (m : Meaning S) (g : Header) (ls : List Line) (k : ℕ) → AreDeclared (λ client. lines.Rogue client) (take k ls) (world_at m g ls k).ending (world_at m g ls k).rogue
+rogue-declared m g ls k = (declared-begun m g (take k ls)).1

@@ -6,7 +6,7 @@ use Rattle.std.proofs.lemmas.Bool.{or_parts}
 use Rattle.std.proofs.lemmas.List.{map-append}
 use Rattle.std.proofs.lemmas.List.Elements.{filter-append}
 use Rattle.smart_base.specs.Lists.{Each, Distinct}
-use Rattle.smart_base.specs.Views.{View, is_view}
+use Rattle.smart_base.specs.Views.{View}
 use Rattle.smart_base.proofs.ViewFacts.{each-weaken, view-distinct}
 use Rattle.smart_statements.specs.Forms.{SignedBy}
 use Rattle.smart_statements.specs.declared.statement.Answer.{Answer}
@@ -16,14 +16,13 @@ use Rattle.smart_service.specs.Services.{Meaning}
 use Rattle.node_rules.specs.Nodes.{Node, view_of}
 use Rattle.node_rules.specs.Deliveries.{delivery_in}
 use Rattle.node_rules.specs.Steps.{Outcome, step_of, leaving}
-use Rattle.node_rules.specs.Reopening.{entries_in}
 use Rattle.node_rules.specs.declared.node.Why.{Why}
 use Rattle.node_rules.specs.declared.node.Delivery.{Delivery}
 use Rattle.node_rules.specs.declared.node.Fired.{Fired}
 use Rattle.node_rules.specs.declared.node.Fired.TheVariants as fires
-use Rattle.world_rules.specs.Secrets.{group_secret, period}
+use Rattle.world_rules.specs.Secrets.{group_secret}
 use Rattle.world_rules.specs.Clients.{heard}
-use Rattle.world_rules.specs.Worlds.{course_of, Host, World, posts, told_drop, told_fired, told_heard, host_after, host_crashed, host_resumed, stepped, hearing, begun, hosts_from}
+use Rattle.world_rules.specs.Worlds.{course_of, Host, World, posts, told_drop, told_fired, told_heard, segment_of, host_after, host_crashed, host_resumed, stepped, hearing, begun, hosts_from, parts_held}
 use Rattle.world_rules.specs.Plays.{line_played, rested, world_after, lines_told}
 use Rattle.client_quorum.specs.declared.client.Client.{Client}
 use Rattle.client_quorum.specs.declared.client.Heard.{Heard}
@@ -32,13 +31,15 @@ use Rattle.world_rules.specs.declared.line.Line.{Line}
 use Rattle.world_rules.specs.declared.line.OutLine.{OutLine}
 use Rattle.world_rules.specs.declared.line.OutLine.TheVariants as outs
 use Rattle.world_rules.specs.declared.message.Sent.{Sent}
-use Rattle.world_laws.specs.Promises.{is_delivery, delivered_line, HasTold}
-use Rattle.world_laws.proofs.Keeps.{IsAside, ask_of, asked_by, by-posts, KeepsLives, live-line_played, signed_by, learned_line, resumed_line, after_call, with_host, entries_left, node_resumed, from_node, from_client, from_script, keeps-sends_all}
+use Rattle.world_laws.specs.Promises.{IsHeader, is_delivery, delivered_line, HasTold}
+use Rattle.world_laws.proofs.Keeps.{IsAside, ask_of, asked_by, by-posts, KeepsLives, live-line_played, signed_by, learned_line, resumed_line, after_call, with_host, node_resumed, from_node, from_client, from_script, keeps-sends_all}
 use Rattle.replica_laws.proofs.Longer.{told_firm, longer-step}
-use Rattle.world_laws.proofs.ChosenLives.{named}
+use Rattle.replica_laws.proofs.Segments.{segment_all}
+use Rattle.world_laws.proofs.Reopens.{from_named}
 use Rattle.world_laws.proofs.ChosenKept.{ids-set, hosts_ids}
 use Rattle.world_laws.proofs.Witnessing.{named_at, not_later}
 use Rattle.agreement_laws.proofs.Lists.{some_equal}
+use Rattle.world_rules.specs.declared.line.Header.{Header}
 
 -- a host of a name has delivered what was told of it before the present script line, and what that tells of
 abbrev ToldOf : (ℕ → List OutLine) → List OutLine → ℕ → List Delivery → Type 0
@@ -67,9 +68,10 @@ all_more {S = S} before told lines hosts none each =
 
 -- a line aside tells of none
 none_aside : (id : ℕ) (line : OutLine) → IsAside line → filter (is_delivery id) (line ∷ []) ≡ []
-none_aside id (outs.Group members faulty app) aside = refl
+none_aside id (outs.Group members faulty app period) aside = refl
 none_aside id (outs.Sent number origin summary) aside = refl
 none_aside id (outs.Decided member place) aside = refl
+none_aside id (outs.Installed member place) aside = absurd aside
 none_aside id (outs.Delivered member place executed) aside = absurd aside
 none_aside id (outs.Promised member number regency) aside = refl
 none_aside id (outs.Synced member number regency base bound) aside = refl
@@ -106,7 +108,10 @@ told-posts {S = S} before ids w s is =
 
 -- a member tells of its deliveries
 one_fired : (id : ℕ) (f : Fired) → filter (is_delivery id) (told_fired id f) ≡ map (delivered_line id) (delivery_in f)
+one_fired id (fires.Installed place) = refl
+one_fired id fires.Spoiled = refl
 one_fired id (fires.Delivered d) = ap (λ (t : Bool). cond t (delivered_line id d ∷ []) []) (eq-eqb id id refl)
+one_fired id (fires.Marked snapshot) = refl
 one_fired id (fires.Adopted s) = refl
 one_fired id fires.Joined = refl
 one_fired id (fires.Promised p) = refl
@@ -136,6 +141,9 @@ other_one id other (fires.Delivered d) differ = by (id == other) refl
     by : (t : Bool) → (id == other) ≡ t → cond t (delivered_line id d ∷ []) [] ≡ []
     by true is = absurd (differ (sym (eqb-true id other is)))
     by false is = refl
+other_one id other (fires.Installed place) differ = refl
+other_one id other fires.Spoiled differ = refl
+other_one id other (fires.Marked snapshot) differ = refl
 other_one id other (fires.Adopted s) differ = refl
 other_one id other fires.Joined differ = refl
 other_one id other (fires.Promised p) differ = refl
@@ -158,16 +166,15 @@ other_told id other None fired differ = other_fired id other fired differ
 other_told id other (Some why) fired differ = other_fired id other fired differ
 
 -- a host that has delivered more
-own_more : (before : ℕ → List OutLine) (told lines : List OutLine) (id : ℕ) (earlier delivered more : List Delivery) → filter (is_delivery id) lines ≡ map (delivered_line id) more
-    → ToldOf before told id (earlier ++ delivered) → ToldOf before (told ++ lines) id (earlier ++ (delivered ++ more))
-own_more before told lines id earlier delivered more own is =
+own_more : (before : ℕ → List OutLine) (told lines : List OutLine) (id : ℕ) (all more : List Delivery) → filter (is_delivery id) lines ≡ map (delivered_line id) more → ToldOf before told id all
+    → ToldOf before (told ++ lines) id (all ++ more)
+own_more before told lines id all more own is =
     let line : Delivery → OutLine = delivered_line id in
     let said : List OutLine = filter (is_delivery id) told in
-    ap (λ (ds : List Delivery). map line ds) (sym (append_assoc earlier delivered more))
-    ∙ (map-append line (earlier ++ delivered) more
+    map-append line all more
     ∙ (ap (λ (xs : List OutLine). xs ++ map line more) is
     ∙ (append_assoc (before id) said (map line more)
-    ∙ ap (λ (xs : List OutLine). before id ++ xs) (ap (λ (xs : List OutLine). said ++ xs) (sym own) ∙ sym (filter-append (is_delivery id) told lines)))))
+    ∙ ap (λ (xs : List OutLine). before id ++ xs) (ap (λ (xs : List OutLine). said ++ xs) (sym own) ∙ sym (filter-append (is_delivery id) told lines))))
 
 -- a node keeps its name
 pub named-step : {S : Type 0} (m : Meaning S) (n : Node S) (event : NodeEvent) → (step_of m n event).node.id ≡ n.id
@@ -213,8 +220,9 @@ told-stepped {S = S} m before ids w i h event once at is =
     (record {
       hosts = set_others (λ (g : Host S). HostTold before w.told g) (λ (g : Host S). HostTold before (w.told ++ lines) g) w.hosts i h h' (subst Distinct (sym is.names) once) at
           (λ g differ all. none_more before w.told lines g.node.id (g.earlier ++ g.delivered) (other_told h.node.id g.node.id o.dropped o.fired differ) all)
-          (λ all. subst (λ (id : ℕ). ToldOf before (w.told ++ lines) id (h.earlier ++ (h.delivered ++ flat_map delivery_in o.fired))) (sym name)
-          (own_more before w.told lines h.node.id h.earlier h.delivered (flat_map delivery_in o.fired) (own_told h.node.id o.dropped o.fired) all)) is.hosts;
+          (λ all. subst (λ (id : ℕ). ToldOf before (w.told ++ lines) id (h'.earlier ++ h'.delivered)) (sym name)
+          (subst (λ (ds : List Delivery). ToldOf before (w.told ++ lines) h.node.id ds) (sym (segment_all (segment_of h) o.fired))
+          (own_more before w.told lines h.node.id (h.earlier ++ h.delivered) (flat_map delivery_in o.fired) (own_told h.node.id o.dropped o.fired) all))) is.hosts;
       names = ids-set w.hosts i h h' at name ∙ is.names;
     })
 
@@ -247,13 +255,14 @@ keeps-deliveries {S = S} m before ids once =
         inject = λ w x on read fine is. told-posts before ids w (from_script x) is;
         declare = λ w faulty rogue ending on how is. record { hosts = is.hosts; names = is.names };
         mark = λ w s on at is. record { hosts = is.hosts; names = is.names };
+        meet = λ w texts on is. record { hosts = is.hosts; names = is.names };
         tell = λ w line aside is. record { hosts = all_more before w.told (line ∷ []) w.hosts (λ id. none_aside id line aside) is.hosts; names = is.names };
       };
       crash = λ w i h left on up at may is. told-set before ids w i h (host_crashed (course_of m) h left) once at refl refl is;
       resume = λ w i h on down at is.
           let hosts : List (Host S) = slice_set w.hosts i (host_resumed h (node_resumed (course_of m) w h)) in
           let set : AllTold before ids (record w { hosts = hosts }) =
-          told-set before ids w i h (host_resumed h (node_resumed (course_of m) w h)) once at (named m group_secret h.node.id w.view period (entries_in (entries_left h))).name (append-nil (h.earlier ++ h.delivered)) is in
+          told-set before ids w i h (host_resumed h (node_resumed (course_of m) w h)) once at (from_named m group_secret h.node.id w.view w.period (parts_held h)) (append-nil (h.earlier ++ h.delivered)) is in
           record { hosts = all_more before w.told (resumed_line (course_of m) w h ∷ []) hosts (λ id. refl) set.hosts; names = set.names };
     }
 
@@ -285,13 +294,13 @@ after_lines {S = S} m before ids w (l ∷ ls) once none each names =
     ∙ ap (λ (xs : List OutLine). before h.node.id ++ xs) (sym (filter-append (is_delivery h.node.id) played.told later)))) (world_after (course_of m) (rested played) ls).hosts rest
 
 -- no host begins with a delivery
-none_delivered : {S : Type 0} (m : Meaning S) (view : View) (members : List ℕ) → Each (HostToldBy (λ id. [])) (hosts_from m view members)
-none_delivered m view [] = tt
-none_delivered m view (id ∷ ids) = (refl, none_delivered m view ids)
+none_delivered : {S : Type 0} (m : Meaning S) (view : View) (period : ℕ) (members : List ℕ) → Each (HostToldBy (λ id. [])) (hosts_from m view period members)
+none_delivered m view period [] = tt
+none_delivered m view period (id ∷ ids) = (refl, none_delivered m view period ids)
 
 -- after any lines of any script the transcript tells of all that each node has delivered, in order, and of no other delivery there
-pub deliveries-told : {S : Type 0} (m : Meaning S) (view : View) (ls : List Line) → is_view view ≡ true → Each (HasTold (lines_told (course_of m) (begun m view) ls)) (world_after (course_of m) (begun m view) ls).hosts
-deliveries-told {S = S} m view ls is =
-    let told : List OutLine = lines_told (course_of m) (begun m view) ls in
-    each-weaken (λ (h : Host S). HostToldBy (λ id. filter (is_delivery id) told) h) (λ (h : Host S). HasTold told h) (λ h all. sym all) (world_after (course_of m) (begun m view) ls).hosts
-    (after_lines m (λ id. []) view.members (begun m view) ls (view-distinct view is) refl (none_delivered m view view.members) (hosts_ids m view view.members))
+pub deliveries-told : {S : Type 0} (m : Meaning S) (g : Header) (ls : List Line) → IsHeader g → Each (HasTold (lines_told (course_of m) (begun m g) ls)) (world_after (course_of m) (begun m g) ls).hosts
+deliveries-told {S = S} m g ls is =
+    let told : List OutLine = lines_told (course_of m) (begun m g) ls in
+    each-weaken (λ (h : Host S). HostToldBy (λ id. filter (is_delivery id) told) h) (λ (h : Host S). HasTold told h) (λ h all. sym all) (world_after (course_of m) (begun m g) ls).hosts
+    (after_lines m (λ id. []) g.view.members (begun m g) ls (view-distinct g.view is.viewed) refl (none_delivered m g.view g.period g.view.members) (hosts_ids m g.view g.period g.view.members))

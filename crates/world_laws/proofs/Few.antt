@@ -1,6 +1,7 @@
 -- Books have few entries: each has a source among the bytes of what was sent, and no more than 2 ^ 24 messages are sent.
 use Rattle.std.proofs.Common.{◌≡◌, inl, inr, ℕ, ◌+◌, ◌^◌, ◌<◌, ◌≤◌, ◌++◌, List, [], ◌∷◌, Option, Some, None, length, nat_lt, map, take, refl, ap, ◌∙◌, sym, arith, subst, length-append, Result, Ok, Err}
 use Rattle.std.specs.List.{cons_option}
+use Rattle.smart_base.specs.Lists.{Each}
 use Rattle.smart_base.specs.Views.{View}
 use Rattle.smart_statements.specs.Batches.{Batch}
 use Rattle.smart_messages.specs.Messages.{decoded}
@@ -16,13 +17,13 @@ use Rattle.store_laws.specs.Restored.{Images}
 use Rattle.store_laws.specs.States.{StoreState}
 use Rattle.world_rules.specs.Crashes.{is_unclosed, still_aside}
 use Rattle.node_rules.specs.Nodes.{Node}
-use Rattle.node_rules.specs.Reopening.{decided_of, reopened}
-use Rattle.node_rules.specs.Steps.{Outcome, step_of, opened, outset}
+use Rattle.node_rules.specs.Reopening.{decided_of}
+use Rattle.node_rules.specs.Steps.{Outcome, step_of, opened}
 use Rattle.node_laws.specs.Restored.{IsSoundBook}
-use Rattle.node_laws.proofs.Reopened.{reopened_is}
-use Rattle.replica_laws.proofs.Sources.{HasSource, FromBook, FromSources, from-take, book-more, from-more, from-step, from-released, from-opened, few_entries}
+use Rattle.replica_laws.proofs.MarkPlaces.{IsMarkUpTo}
+use Rattle.replica_laws.proofs.Sources.{HasSource, FromBook, FromSources, from-front, from-take, book-more, from-more, from-step, from-released, from-opened, few_entries}
 use Rattle.world_rules.specs.Premises.{bytes_of}
-use Rattle.world_rules.specs.Secrets.{group_secret, period}
+use Rattle.world_rules.specs.Secrets.{group_secret}
 use Rattle.world_rules.specs.Worlds.{course_of, Host, World, life_firm, written, life_crashed, host_of_node, host_after, host_crashed, outset_of}
 use Rattle.world_rules.specs.declared.message.Content.{Content}
 use Rattle.world_rules.specs.declared.message.Sent.{Sent}
@@ -66,21 +67,26 @@ may-have w h (Firm count) may = tt
 
 -- ---- hosts
 
--- what a host's node keeps has a source, and so have the entries of its lives; its book has been opened
-pub record FewHost {S : Type 0} (sent : List Sent) (h : Host S) : Type 0 where
+-- What a host's node keeps has a source, and so have the entries of its lives and all that was written. Its book has been opened. Marks are of places
+-- that were delivered.
+pub record FewHost {S : Type 0} (sent : List Sent) (whole : List LogEntry) (h : Host S) : Type 0 where
   pub node : FromSources (sources sent) h.node
   pub begun : 0 < length h.node.entries
+  pub written_from : FromBook (sources sent) whole
+  pub marks : Each (IsMarkUpTo h.node.replica.place) whole
   pub diary : FromBook (sources sent) h.life.diary
   pub aside : FromBook (sources sent) h.life.aside
 
 -- one more message is sent
-pub few-sent : {S : Type 0} (sent : List Sent) (s : Sent) (h : Host S) → FewHost sent h → FewHost (sent ++ s ∷ []) h
-few-sent {S = S} sent s h is =
+pub few-sent : {S : Type 0} (sent : List Sent) (s : Sent) (whole : List LogEntry) (h : Host S) → FewHost sent whole h → FewHost (sent ++ s ∷ []) whole h
+few-sent {S = S} sent s whole h is =
     let old : List (List ℕ) = sources sent in
     let new : List (List ℕ) = sources (sent ++ s ∷ []) in
     record {
       node = from-more old new (source-more sent s) h.node is.node;
       begun = is.begun;
+      written_from = book-more old new (source-more sent s) whole is.written_from;
+      marks = is.marks;
       diary = book-more old new (source-more sent s) h.life.diary is.diary;
       aside = book-more old new (source-more sent s) h.life.aside is.aside;
     }
@@ -101,17 +107,19 @@ begun-step {S = S} m n event some = longer_begun (told_firm n event).entries (st
     told x (Firm count) some = some
 
 -- and what it keeps has a source
-pub few-step : {S : Type 0} (m : Meaning S) (sent : List Sent) (h : Host S) (event : NodeEvent) → ForEvent (λ x. HasSource (sources sent) x) event → FewHost sent h
+pub few-step : {S : Type 0} (m : Meaning S) (sent : List Sent) (whole : List LogEntry) (h : Host S) (event : NodeEvent) → ForEvent (λ x. HasSource (sources sent) x) event → FewHost sent whole h
     → FromSources (sources sent) (step_of m h.node event).node
-few-step m sent h event came is = from-step (sources sent) m h.node event came is.begun is.node
+few-step m sent whole h event came is = from-step (sources sent) m h.node event came is.begun is.node
 
--- a host's node takes an event
-pub few-after : {S : Type 0} (m : Meaning S) (sent : List Sent) (h : Host S) (o : Outcome S) → FromSources (sources sent) o.node → 0 < length o.node.entries
-    → (life_firm h.life h.node o.node).diary ≡ take o.node.firm o.node.entries → FewHost sent h → FewHost sent (host_after (course_of m) h o)
-few-after m sent h o node some same is = record {
+-- a host's node takes an event, and writes more behind all that was written
+pub few-after : {S : Type 0} (m : Meaning S) (sent : List Sent) (whole more rest : List LogEntry) (h : Host S) (o : Outcome S) → FromSources (sources sent) o.node → 0 < length o.node.entries
+    → FromBook (sources sent) more → Each (IsMarkUpTo o.node.replica.place) more → (life_firm h.life h.node o.node).diary ++ rest ≡ more → FewHost sent whole h → FewHost sent more (host_after (course_of m) h o)
+few-after m sent whole more rest h o node some book marks same is = record {
   node = from-released (sources sent) o.node node;
   begun = some;
-  diary = subst (λ (es : List LogEntry). FromBook (sources sent) es) (sym same) (from-take (sources sent) o.node.entries o.node.firm node.book);
+  written_from = book;
+  marks = marks;
+  diary = from-front (sources sent) (life_firm h.life h.node o.node).diary rest (subst (λ (es : List LogEntry). FromBook (sources sent) es) (sym same) book);
   aside = is.aside;
 }
 
@@ -120,39 +128,37 @@ aside-from : (bytes : List (List ℕ)) (s : StoreState) (es : List LogEntry) →
 aside-from bytes s es from = either (λ (xs : List LogEntry). FromBook bytes xs) (is_unclosed s) es [] from (from-take bytes es 0 from)
 
 -- a host's store makes a call
-pub few-called : {S : Type 0} (m : Meaning S) (sent : List Sent) (h : Host S) → FewHost sent h → FewHost sent (after_call (course_of m) h)
-few-called m sent h is = record { node = is.node; begun = is.begun; diary = is.diary; aside = aside-from (sources sent) (after_call (course_of m) h).store h.life.aside is.aside }
+pub few-called : {S : Type 0} (m : Meaning S) (sent : List Sent) (whole : List LogEntry) (h : Host S) → FewHost sent whole h → FewHost sent whole (after_call (course_of m) h)
+few-called m sent whole h is =
+    record { node = is.node; begun = is.begun; written_from = is.written_from; marks = is.marks; diary = is.diary; aside = aside-from (sources sent) (after_call (course_of m) h).store h.life.aside is.aside }
 
--- the book of which a crash leaves the first entries
-pub few-left : {S : Type 0} (sent : List Sent) (h : Host S) → written h ≡ h.node.entries → FewHost sent h → FromBook (sources sent) (book_left h)
-few-left sent h own is =
+-- the book of which a crash leaves a front
+pub few-left : {S : Type 0} (sent : List Sent) (whole : List LogEntry) (h : Host S) → whole ≡ written h → FewHost sent whole h → FromBook (sources sent) (book_left h)
+few-left sent whole h own is =
     either (λ (es : List LogEntry). FromBook (sources sent) es) (is_unclosed h.store) h.life.aside (written h) is.aside
-    (subst (λ (es : List LogEntry). FromBook (sources sent) es) (sym own) is.node.book)
+    (subst (λ (es : List LogEntry). FromBook (sources sent) es) own is.written_from)
 
 -- a host's member crashes
-pub few-crashed : {S : Type 0} (m : Meaning S) (sent : List Sent) (h : Host S) (left : Images) (k : ℕ) → written h ≡ h.node.entries → (life_crashed h left).diary ≡ take k (book_left h) → FewHost sent h
-    → FewHost sent (host_crashed (course_of m) h left)
-few-crashed m sent h left k own same is =
-    let book : FromBook (sources sent) (book_left h) = few-left sent h own is in
+pub few-crashed : {S : Type 0} (m : Meaning S) (sent : List Sent) (whole : List LogEntry) (h : Host S) (left : Images) (k : ℕ) → whole ≡ written h → (life_crashed h left).diary ≡ take k (book_left h)
+    → FewHost sent whole h → FewHost sent whole (host_crashed (course_of m) h left)
+few-crashed m sent whole h left k own same is =
+    let book : FromBook (sources sent) (book_left h) = few-left sent whole h own is in
     record {
       node = is.node;
       begun = is.begun;
+      written_from = is.written_from;
+      marks = is.marks;
       diary = subst (λ (es : List LogEntry). FromBook (sources sent) es) (sym same) (from-take (sources sent) (book_left h) k book);
       aside = aside-from (sources sent) (host_crashed (course_of m) h left).store (book_left h) book;
     }
 
--- a node that goes on has an opened book
-pub begun-reopened : {S : Type 0} (m : Meaning S) (secret : List ℕ) (id : ℕ) (view : View) (period : ℕ) (entries : List LogEntry) → 0 < length (reopened m (outset m secret id view period) entries).entries
-unfolding reopened
-begun-reopened m secret id view period [] = omega arith
-begun-reopened {S = S} m secret id view period (e ∷ es) = subst (λ (n : Node S). 0 < length n.entries) (sym (reopened_is m (outset m secret id view period) e es)) (omega arith)
-
 -- a host that has just opened
-pub few-opened : {S : Type 0} (m : Meaning S) (sent : List Sent) (id : ℕ) (view : View) → FewHost sent (host_of_node (opened (outset_of m view id)))
-few-opened m sent id view =
+pub few-opened : {S : Type 0} (m : Meaning S) (sent : List Sent) (id : ℕ) (view : View) (period : ℕ)
+    → FewHost sent (opened (outset_of m view period id)).entries (host_of_node (opened (outset_of m view period id)))
+few-opened m sent id view period =
     let from = from-opened (sources sent) m group_secret id view period in
-    let none : FromBook (sources sent) [] = from-take (sources sent) (opened (outset_of m view id)).entries 0 from.book in
-    record { node = from; begun = omega arith; diary = none; aside = none }
+    let none : FromBook (sources sent) [] = from-take (sources sent) (opened (outset_of m view period id)).entries 0 from.book in
+    record { node = from; begun = omega arith; written_from = from.book; marks = from.marks; diary = none; aside = none }
 
 -- ---- bounds
 

@@ -1,7 +1,7 @@
 -- Each message that is sent in a play over a view is read as itself, and its statements bear the tags of their signers.
-use Rattle.std.proofs.Common.{◌≡◌, ap, sym, ◌∙◌, ℕ, zero, suc, ◌+◌, ◌*◌, ◌^◌, ◌<◌, ◌≤◌, ◌&&◌, true, List, [], ◌∷◌, length, refl, subst, Some, None, nat_lt, nat_le, inl, inr, arith, Result, Ok, Err, length-append}
+use Rattle.std.proofs.Common.{◌≡◌, ap, sym, ◌∙◌, ℕ, zero, suc, ◌+◌, ◌*◌, ◌^◌, ◌<◌, ◌≤◌, ◌&&◌, true, List, [], ◌∷◌, length, refl, subst, take, Option, Some, None, nat_lt, nat_le, inl, inr, arith, Result, Ok, Err, length-append}
 use Rattle.std.proofs.lemmas.Bool.{ltb-true, leb-true}
-use Rattle.std.specs.Prelude.{slice_get}
+use Rattle.std.specs.Prelude.{IfSome, slice_get}
 use Rattle.smart_base.specs.Lists.{Each}
 use Rattle.smart_base.specs.Views.{View, ascends, is_view}
 use Rattle.smart_statements.specs.Forms.{SignedBy}
@@ -19,11 +19,11 @@ use Rattle.smart_messages.specs.declared.message.Message.TheVariants as changes
 use Rattle.smart_statements.specs.declared.entry.NodeEvent.{NodeEvent}
 use Rattle.smart_statements.specs.declared.entry.NodeEvent.TheVariants.{Arrive, Tick, Deliver, Firm}
 use Rattle.smart_service.specs.Services.{Meaning}
-use Rattle.node_rules.specs.Steps.{Outcome, step_of, leaving}
+use Rattle.node_rules.specs.Steps.{Outcome, step_of, takes_in, leaving}
 use Rattle.node_rules.specs.declared.node.Held.{Held}
 use Rattle.client_quorum.specs.Clients.{request_of, asking, learning, after_heard, reply_read}
 use Rattle.world_rules.specs.Clients.{heard}
-use Rattle.world_rules.specs.Worlds.{course_of, Host, Life, World, host_crashed, host_resumed, posts, sends_all, host_after, stepped, hearing, hosts_from, clients_from, begun, outset_of}
+use Rattle.world_rules.specs.Worlds.{course_of, store_after, Host, Life, World, host_crashed, host_resumed, posts, sends_all, host_after, stepped, hearing, hosts_from, clients_from, begun}
 use Rattle.client_quorum.specs.declared.client.Client.{Client}
 use Rattle.client_quorum.specs.declared.client.Heard.{Heard}
 use Rattle.client_quorum.specs.declared.client.Heard.TheVariants as hears
@@ -33,31 +33,43 @@ use Rattle.world_rules.specs.declared.message.Sent.{Sent}
 use Rattle.replica_laws.specs.Sending.{orders}
 use Rattle.world_laws.specs.Sending.{AllGenuine, IsReadIfShort, IsHeardAs, IsReadAs, IsGenuineContent, IsGenuineFrom}
 use Rattle.world_laws.proofs.Lists.{each_set, each_get}
-use Rattle.world_laws.proofs.Keeps.{with_host, entries_left, node_resumed, after_call, MayCome, read_whole, read_fits, long_unread, ask_of, asked_by, Keeps, by-posts, ReadsSent, signed_by, OwnWaits, from_node, from_client, HasContent, IsRead, read_has, from_script}
+use Rattle.world_laws.proofs.Keeps.{with_host, node_resumed, after_call, MayCome, read_whole, read_fits, long_unread, ask_of, asked_by, KeepsBut, by-posts, ReadsSent, signed_by, OwnWaits, from_node, from_client, HasContent, IsRead, read_has, from_script}
 use Rattle.smart_statements.specs.Kinds.{requests, proposals, ballots, answers}
 use Rattle.smart_statements.specs.Statements.{request_small}
 use Rattle.replica_rules.specs.Seals.{signed}
-use Rattle.world_rules.specs.Secrets.{group_secret, period}
+use Rattle.world_rules.specs.Secrets.{group_secret}
 use Rattle.replica_laws.proofs.Genuine.{IsGood, signed-length, good-genuine, signed-verified, signed-fits, ask-good}
-use Rattle.replica_laws.proofs.FitNodes.{IsBrief, FitsEvent, fit-released}
+use Rattle.replica_laws.proofs.FitNodes.{FitsEvent, FitsSnapshot, Settled, Settles, fit-released}
+use Rattle.replica_laws.proofs.Small.{IsBrief, IsSmall, small-fits}
 use Rattle.replica_laws.proofs.FitNodes as nodes
 use Rattle.replica_laws.proofs.FitBooks.{FitBook, spelled-step, spelled-opened}
 use Rattle.vote_book.specs.Entries.{FitsEntry}
 use Rattle.vote_book.specs.declared.entry.LogEntry.{LogEntry}
 use Rattle.node_rules.specs.Nodes.{Node, view_of}
-use Rattle.node_rules.specs.Reopening.{decided_of, entries_in, reopened}
-use Rattle.store_laws.specs.States.{store_called}
-use Rattle.store_laws.specs.Unswitched.{never, no_tail}
+use Rattle.agreement_laws.specs.Statements.{Statement}
 use Rattle.world_laws.proofs.Lives.{EachLife, life-weaker, life-firm, life-called, life-crashed}
-use Rattle.world_laws.proofs.Reopens.{fit_reopened}
+use Rattle.world_laws.proofs.Reopens.{GoesBehind, node_behind, fit_behind, state-fits}
+use Rattle.snapshot_form.specs.Replicas.{IsOfClients}
+use Rattle.world_laws.proofs.Snapshots.{AreRestorable, IsSnapshotAt, snapshot_place, snapshot_replica, snapshot_short}
+use Rattle.state_transfer.specs.Fetches.{joined_of}
+use Rattle.state_transfer.specs.declared.fetch.Fetch.{Fetch}
+use Rattle.snapshot_form.specs.Snapshots.{snapshot_text}
+use Rattle.node_laws.proofs.Planning.{IsTakenFrom}
+use Rattle.node_rules.specs.declared.node.OwnSnapshot.{OwnSnapshot}
+use Rattle.replica_rules.specs.Replicas.{state}
+use Rattle.smart_service.specs.declared.replica.Replica.{Replica}
+use Rattle.world_rules.specs.Fronts.{stated_place}
+use Rattle.std.proofs.lemmas.List.{length-take-le}
 use Rattle.world_rules.specs.declared.message.Content.{Content}
 use Rattle.world_rules.specs.declared.message.Content.TheVariants as contents
 use Rattle.replica_laws.proofs.Waiting.{each-leaving}
 use Rattle.smart_base.proofs.SameLists.{and_true}
-use Rattle.agreement_laws.proofs.Lists.{some_equal, each_end, each_both}
+use Rattle.agreement_laws.proofs.Lists.{some_equal, each_end, each_both, each_take}
 use Rattle.smart_base.proofs.ViewFacts.{each-weaken}
 use Rattle.node_rules.proofs.Rulewise.{ForRead}
-use Rattle.smart_statements.specs.Batches.{batch_text}
+use Rattle.smart_statements.specs.Batches.{Batch, batch_text}
+use Rattle.world_rules.specs.declared.line.Header.{Header}
+use Rattle.world_laws.specs.Promises.{IsHeader}
 
 -- what a client sends has a spelling
 pub record FitClient (c : Client) : Type 0 where
@@ -131,6 +143,34 @@ may-fit w h Tick is may = tt
 may-fit w h Deliver is may = tt
 may-fit w h (Firm count) is may = tt
 
+-- and what a node makes of it, if what it may take over is small
+pub step-fit : {S : Type 0} (m : Meaning S) → IsBrief m → (w : World S) (i : ℕ) (h : Host S) (event : NodeEvent) → slice_get w.hosts i ≡ Some h → MayCome w h event → Settles m (takes_in h.node event).node
+    → AllFit m w → FitBook m group_secret (step_of m h.node event).node
+step-fit m brief w i h event at may settles is = spelled-step group_secret m brief h.node event (may-fit w h event is may) settles (each_get (FitHost m) w.hosts i h is.hosts at).node
+
+-- a text that is a snapshot of the list is read as a small replica, whose snapshot it is
+pub settled-by : {S : Type 0} (m : Meaning S) → IsBrief m → (view : View) (chosen : List Batch) → AreRestorable m view chosen → (f : Fetch) (r : Replica S) → IsSnapshotAt m view chosen (joined_of f)
+    → IsTakenFrom m f r → Settled m f r
+settled-by {S = S} m brief view chosen may f r at taken =
+    let bs : List Batch = take at.place chosen in
+    let state_is : state m view bs ≡ r =
+    some_equal (state m view bs) r (sym (snapshot_replica m may.service view chosen (joined_of f) may.viewed may.begins may.low may.of at) ∙ taken.read) in
+    let long = length-take-le at.place chosen at.within in
+    let within = at.within in
+    let low = may.low in
+    let small : IsSmall m (state m view bs) = small-fits m (state m view bs) (state-fits m brief view bs may.viewed may.begins (omega (arith, long, within, low)) (each_take IsOfClients at.place chosen may.of)) in
+    record { small = subst (λ (x : Replica S). IsSmall m x) state_is small; text = at.bytes_is ∙ ap (λ (x : Replica S). snapshot_text m x) state_is }
+
+-- and it may be an own snapshot
+pub own-fits : {S : Type 0} (m : Meaning S) (view : View) (chosen : List Batch) → AreRestorable m view chosen → (bytes : List ℕ) → IsSnapshotAt m view chosen bytes
+    → FitsSnapshot (record { place = stated_place bytes; snapshot = bytes; needs = 0 })
+own-fits m view chosen may bytes at =
+    let states = snapshot_place m view chosen bytes may.low at in
+    let some = at.some in
+    let within = at.within in
+    let low = may.low in
+    record { place_fits = (omega (arith, states, some), omega (arith, states, within, low)); short = snapshot_short m may.service view chosen bytes may.viewed may.begins may.low may.of at }
+
 -- something is sent
 fit-posts : {S : Type 0} {m : Meaning S} (w : World S) (s : Sent) → IsRead s.content → IsTaggedFrom s.origin s.content → AllFit m w → AllFit m (posts w s)
 fit-posts {S = S} {m = m} w s read tagged is =
@@ -167,15 +207,17 @@ fit-stepped {S = S} m w i h o at fit is =
 fit-set : {S : Type 0} {m : Meaning S} (w : World S) (i : ℕ) (h : Host S) → FitHost m h → AllFit m w → AllFit m (with_host w i h)
 fit-set {m = m} w i h fit is = record { hosts = each_set (FitHost m) w.hosts i h is.hosts fit; clients = is.clients; sent = is.sent; tagged = is.tagged }
 
--- a node goes on from entries that have spellings
-pub fit-resumes : {S : Type 0} (m : Meaning S) → IsBrief m → (w : World S) (i : ℕ) (h : Host S) → slice_get w.hosts i ≡ Some h → is_view w.view ≡ true → entries_in (entries_left h) ≡ h.life.diary
-    → length (decided_of 0 h.life.diary) < 2 ^ 63 → AllFit m w → AllFit m (with_host w i (host_resumed h (node_resumed (course_of m) w h)))
-fit-resumes {S = S} m brief w i h at viewed same few is =
+-- a node goes on over the cut of its member's diary
+pub fit-resumes : {S : Type 0} (m : Meaning S) → IsBrief m → (w : World S) (i : ℕ) (h : Host S) (stated : List Statement) (place : ℕ) (checkpoint : Option OwnSnapshot) → slice_get w.hosts i ≡ Some h
+    → AreRestorable m w.view w.chosen → w.period < 2 ^ 32 → node_resumed (course_of m) w h ≡ node_behind m group_secret h.node.id w.view w.period place w.chosen checkpoint h.life.diary
+    → GoesBehind group_secret stated w.view place w.chosen h.life.diary → (place ≡ 0 → checkpoint ≡ None) → IfSome checkpoint FitsSnapshot → AllFit m w
+    → AllFit m (with_host w i (host_resumed h (node_resumed (course_of m) w h)))
+fit-resumes {S = S} m brief w i h stated place checkpoint at may low same goes none own is =
     let fit : FitHost m h = each_get (FitHost m) w.hosts i h is.hosts at in
     let kept : Each (nodes.FitsEntry group_secret) h.life.diary = each-weaken EntryFits (nodes.FitsEntry group_secret) (λ e fits. fits.0) h.life.diary fit.life.diary in
     let node : FitBook m group_secret (node_resumed (course_of m) w h) =
-    subst (λ (es : List LogEntry). FitBook m group_secret (reopened m (outset_of m w.view h.node.id) es)) (sym same)
-    (fit_reopened group_secret m brief h.node.id w.view period h.life.diary fit.node.node.named viewed (omega arith) kept (spelled-life h.life fit.life).diary few) in
+    subst (λ (n : Node S). FitBook m group_secret n) (sym same)
+    (fit_behind group_secret m brief h.node.id stated w.view w.period place w.chosen checkpoint h.life.diary goes none fit.node.node.named may.viewed may.begins low may.low may.of own kept (spelled-life h.life fit.life).diary) in
     fit-set w i (host_resumed h (node_resumed (course_of m) w h)) (record { node = node; life = fit.life }) is
 
 -- where no request waits
@@ -196,17 +238,19 @@ fit-after_heard c a (hears.Ignored why) low is = is
 reply-low : (a : SignedBy Answer) → FitsContent (Reply a) → a.statement.place < 2 ^ 63
 reply-low a fits = fits.statement_fits.place_fits.1
 
--- each event keeps that all has a spelling
-pub keeps-fit : {S : Type 0} (m : Meaning S) → IsBrief m → Keeps (course_of m) (AllFit m)
+-- a node takes an event
+pub fit-event : {S : Type 0} (m : Meaning S) → IsBrief m → (w : World S) (i : ℕ) (h : Host S) (event : NodeEvent) → slice_get w.hosts i ≡ Some h → MayCome w h event → Settles m (takes_in h.node event).node → AllFit m w
+    → AllFit m (stepped (course_of m) w i h (step_of m h.node event))
+fit-event m brief w i h event at may settles is = fit-stepped m w i h (step_of m h.node event) at (step-fit m brief w i h event at may settles is) is
+
+-- each other event keeps that all has a spelling
+pub keeps-fit : {S : Type 0} (m : Meaning S) → KeepsBut (course_of m) (AllFit m)
 unfolding hearing
-keeps-fit {S = S} m brief =
+keeps-fit {S = S} m =
     record {
-      event = λ w i h event up at may is.
-          fit-stepped m w i h (step_of m h.node event) at
-          (spelled-step group_secret m brief h.node event (may-fit w h event is may) (each_get (FitHost m) w.hosts i h is.hosts at).node) is;
       disk = λ w i h up at is.
           let fit : FitHost m h = each_get (FitHost m) w.hosts i h is.hosts at in
-          fit-set w i (after_call (course_of m) h) (record { node = fit.node; life = life-called EntryFits h.life (store_called never no_tail h.store) fit.life }) is;
+          fit-set w i (after_call (course_of m) h) (record { node = fit.node; life = life-called EntryFits h.life (store_after h) fit.life }) is;
       crash = λ w i h left up at may is.
           let fit : FitHost m h = each_get (FitHost m) w.hosts i h is.hosts at in
           fit-set w i (host_crashed (course_of m) h left) (record { node = fit.node; life = life-crashed EntryFits h left (book_fits h.node fit.node) fit.life }) is;
@@ -244,6 +288,7 @@ keeps-fit {S = S} m brief =
       inject = λ w x read fine is. fit-posts w (from_script x) read tt is;
       declare = λ w faulty rogue ending how is. record { hosts = is.hosts; clients = is.clients; sent = is.sent; tagged = is.tagged };
       same = λ w mark told is. record { hosts = is.hosts; clients = is.clients; sent = is.sent; tagged = is.tagged };
+      meet = λ w texts on is. record { hosts = is.hosts; clients = is.clients; sent = is.sent; tagged = is.tagged };
     }
 
 -- the beginning
@@ -269,10 +314,10 @@ view_parts v is =
     (leb-true v.number 1023 f.0, a.1)
 
 -- hosts that have just opened
-hosts_fit : {S : Type 0} (m : Meaning S) (view : View) (ids : List ℕ) → is_view view ≡ true → Each (IsSigner 1) ids → Each (FitHost m) (hosts_from m view ids)
-hosts_fit m view [] low each = tt
-hosts_fit m view (id ∷ ids) low each =
-    (record { node = spelled-opened group_secret m id view period each.0 low (omega arith); life = record { diary = tt; aside = tt } }, hosts_fit m view ids low each.1)
+hosts_fit : {S : Type 0} (m : Meaning S) (view : View) (period : ℕ) (ids : List ℕ) → is_view view ≡ true → period < 2 ^ 32 → Each (IsSigner 1) ids → Each (FitHost m) (hosts_from m view period ids)
+hosts_fit m view period [] viewed low each = tt
+hosts_fit m view period (id ∷ ids) viewed low each =
+    (record { node = spelled-opened group_secret m id view period each.0 viewed low; life = record { diary = tt; aside = tt } }, hosts_fit m view period ids viewed low each.1)
 
 -- clients that have not asked
 clients_fit : (count i : ℕ) → i + count ≤ 2 ^ 16 → Each FitClient (clients_from count i)
@@ -281,10 +326,10 @@ clients_fit zero i low = tt
 clients_fit (suc count) i low = (record { named = omega (arith, low); seen = omega arith; waits = no_request i }, clients_fit count (i + 1) (omega (arith, low)))
 
 -- a play begins so
-pub fit-begun : {S : Type 0} (m : Meaning S) (view : View) → is_view view ≡ true → AllFit m (begun m view)
-fit-begun m view is =
-    let parts = view_parts view is in
-    record { hosts = hosts_fit m view view.members is (ascending 0 view.members parts.1); clients = clients_fit 1025 0 (omega arith); sent = tt; tagged = tt }
+pub fit-begun : {S : Type 0} (m : Meaning S) (g : Header) → IsHeader g → AllFit m (begun m g)
+fit-begun m g is =
+    let parts = view_parts g.view is.viewed in
+    record { hosts = hosts_fit m g.view g.period g.view.members is.viewed is.period_fits (ascending 0 g.view.members parts.1); clients = clients_fit 1025 0 (omega arith); sent = tt; tagged = tt }
 
 -- what is read
 
@@ -311,6 +356,8 @@ ordering-short (changes.Mark m) fits is =
     let long = signed-length marks m in
     let text : length (spells_report.mark m.statement) ≡ 9 + length m.statement.digest = omega arith in
     omega (arith, long, text, fits.statement_fits.digest_fits, fits.tag_fits)
+ordering-short (changes.StateAsk a) fits is = omega arith
+ordering-short (changes.StatePart p) fits is = omega (arith, fits.bytes_fit)
 ordering-short _ fits is = absurd (cc)
 
 -- so it is read

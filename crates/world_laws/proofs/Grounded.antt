@@ -1,9 +1,9 @@
--- In a play each batch that a node holds was in a message that was sent, and is the only one of its digest.
-use Rattle.std.proofs.Common.{◌≡◌, ℕ, ◌^◌, ◌<◌, ◌++◌, ◌==◌, ◌+◌, ◌&&◌, true, false, not, List, [], ◌∷◌, length, refl, sym, subst, inl, inr, Option, Some, None}
+-- In a play each batch that a node holds was in a message that was sent. Its text is the only one of its digest.
+use Rattle.std.proofs.Common.{◌≡◌, ℕ, ◌^◌, ◌<◌, ◌++◌, ◌==◌, ◌+◌, ◌&&◌, true, false, not, List, [], ◌∷◌, length, refl, sym, subst, inl, inr, Option, Some, None, Err, Ok, Result, ⊎_elim}
 use Rattle.std.specs.Prelude.{option_map, slice_get, IfSome}
-use Rattle.std.specs.List.{list_any, filter_map}
+use Rattle.std.specs.List.{list_any, filter_map, flat_map}
 use Rattle.smart_base.specs.Lists.{Each}
-use Rattle.smart_base.specs.Views.{View, is_view}
+use Rattle.smart_base.specs.Views.{View}
 use Rattle.smart_statements.specs.Forms.{SignedBy}
 use Rattle.smart_statements.specs.Batches.{Batch}
 use Rattle.smart_statements.specs.declared.statement.VoteKind.TheVariants.{Write}
@@ -12,6 +12,7 @@ use Rattle.smart_statements.specs.declared.report.Report.{Report}
 use Rattle.smart_messages.specs.declared.regency.Sync.{Sync}
 use Rattle.smart_messages.specs.declared.message.Proposed.{Proposed}
 use Rattle.smart_messages.specs.declared.message.Message.{Message}
+use Rattle.smart_messages.specs.declared.message.Message.TheVariants as changes
 use Rattle.smart_messages.specs.declared.message.Message.TheVariants.{Ask, Propose, Vote, Reply}
 use Rattle.smart_statements.specs.declared.entry.NodeEvent.{NodeEvent}
 use Rattle.smart_statements.specs.declared.entry.NodeEvent.TheVariants.{Arrive, Tick, Deliver, Firm}
@@ -27,37 +28,54 @@ use Rattle.node_rules.specs.Votes.{has_quorum, Named, named_in, named_by, known,
 use Rattle.replica_rules.specs.Replicas.{is_next, delivered}
 use Rattle.replica_rules.specs.Pools.{offered, settled}
 use Rattle.node_rules.specs.Rules.{reply_of, replying, lines_to_answer, deliver_batch, delivers, proposing, propose_batch, proposes, writing, write_batch, writes, votable, written, accepting, accept_batch, accepts, deciding, decide_batch, decides, answering, answer_line, answers_again}
-use Rattle.node_rules.specs.Nodes.{Node, view_of, regency_of, next_place, open_slot, is_open, holding}
+use Rattle.node_rules.specs.Marks.{mark_of, mark_place, firm_at}
+use Rattle.node_rules.specs.Nodes.{Node, view_of, regency_of, next_place, open_slot, is_open, holding, holding_all}
 use Rattle.node_rules.specs.Arrivals.{noted, kept}
-use Rattle.node_rules.specs.Changes.{adopts_by, adopts, adoption, asks_next, joining, joins, promising, promise_next, promises, leading, lead_with, leads, timing, passes_on, presses, times}
-use Rattle.node_rules.specs.Steps.{Outcome, step_of, leaving, outset}
+use Rattle.node_rules.specs.Changes.{adopts_by, adopts, adoption, asks_next, joining, joins, promising, promise_next, promises, leading, lead_with, leads, timing, passes_on, presses, times, asks_state, lags}
+use Rattle.node_rules.specs.Steps.{Outcome, step_of, takes_in, leaving, Outset}
+use Rattle.node_rules.specs.declared.node.OwnSnapshot.{OwnSnapshot}
+use Rattle.replica_laws.proofs.FitNodes.{FitsSnapshot, Settles}
+use Rattle.world_laws.proofs.Snapshots.{AreRestorable}
 use Rattle.node_rules.specs.declared.node.Target.TheVariants as targets
 use Rattle.world_rules.specs.Premises.{batches_met, batches}
-use Rattle.world_rules.specs.Worlds.{course_of, Host, World, host_crashed, host_resumed, posts, chosen_with, host_after, stepped, hearing, hosts_from, begun}
+use Rattle.world_rules.specs.Worlds.{course_of, store_after, Host, World, host_crashed, host_resumed, posts, snapshot_in, chosen_with, host_after, stepped, hearing, hosts_from, begun}
 use Rattle.world_rules.specs.declared.message.Sent.{Sent}
 use Rattle.world_rules.specs.declared.message.Content.{Content}
 use Rattle.node_laws.proofs.Lists.{guard, each_filter_map_in}
 use Rattle.node_laws.proofs.Voting.{proposed_is, votable_is}
-use Rattle.node_laws.proofs.Deciding.{due_is, accept_for_is}
+use Rattle.node_laws.proofs.Deciding.{due_is, accept_for_is, FromShown, FromVotes}
 use Rattle.replica_laws.proofs.Once.{entries_adopted}
 use Rattle.node_rules.proofs.Rulewise.{KeptByRules, keeps_step, ForRead, ForEvent}
 use Rattle.world_laws.proofs.Lists.{each_set, each_get}
 use Rattle.agreement_laws.specs.Lists.{Exact}
 use Rattle.replica_rules.specs.Seals.{digest_of}
-use Rattle.world_laws.proofs.Keeps.{with_host, entries_left, node_resumed, after_call, HasMessage, ask_of, asked_by, Keeps, by-posts, ReadsSent, MayRead, may_read, signed_by, from_node, from_client, comes-as, keeps-sends_all, from_script}
-use Rattle.replica_laws.proofs.FitNodes.{IsBrief}
-use Rattle.world_laws.proofs.Fitting.{AllFit, keeps-fit, fit-reads, fit-resumes, fit-begun}
+use Rattle.world_laws.proofs.Keeps.{with_host, node_resumed, after_call, HasMessage, ask_of, asked_by, KeepsBut, MayCome, by-posts, ReadsSent, MayRead, may_read, signed_by, from_node, from_client, comes-as, keeps-sends_all, from_script}
+use Rattle.replica_laws.proofs.Small.{IsBrief}
+use Rattle.world_laws.proofs.Fitting.{AllFit, keeps-fit, fit-event, fit-reads, fit-resumes, fit-begun}
 use Rattle.world_laws.proofs.Lives.{EachLife, life-weaker, life-firm, life-called, life-crashed}
-use Rattle.node_rules.specs.Reopening.{decided_of, entries_in, reopened}
+use Rattle.node_rules.specs.Reopening.{reopened}
+use Rattle.node_laws.specs.Restoring.{outset_behind}
+use Rattle.node_laws.proofs.Cuts.{cut_each}
+use Rattle.book_laws.specs.BookCuts.{cut_at}
+use Rattle.world_laws.proofs.Reopens.{GoesBehind, node_behind}
 use Rattle.node_laws.proofs.Reopened.{reopened_is}
-use Rattle.store_laws.specs.States.{store_called}
-use Rattle.store_laws.specs.Unswitched.{never, no_tail}
-use Rattle.world_rules.specs.Secrets.{group_secret, period}
-use Rattle.world_laws.proofs.NoClash.{HasBatch, IsMet, has-left, has-right, met-grows, TextsExact, texts-end, met-exact}
+use Rattle.world_rules.specs.Secrets.{group_secret}
+use Rattle.world_laws.proofs.NoClash.{HasBatch, IsMet, has-left, has-right, met-grows, TextsExact, texts-end, texts-marked, met-exact}
 use Rattle.agreement_laws.proofs.Lists.{some_equal, each_among, each_append, either, each_end}
 use Rattle.smart_base.proofs.ViewFacts.{each-weaken}
 use Rattle.node_rules.specs.declared.node.Asked.{Asked}
-use Rattle.smart_messages.specs.Messages.{proposal_in}
+use Rattle.world_rules.specs.declared.line.Header.{Header}
+use Rattle.world_laws.specs.Promises.{IsHeader}
+use Rattle.agreement_laws.specs.Statements.{Statement}
+use Rattle.node_rules.specs.Transfers.{answers_state, follow_plan, gives_parts, install_by, install_fetch, install_replica, installed_by, installing, installs, is_of_group, offer_for, offers_state, part_messages, planning, plans, shown_after, spoil}
+use Rattle.node_rules.specs.declared.node.Target.{Target}
+use Rattle.smart_service.specs.declared.replica.Replica.{Replica}
+use Rattle.state_transfer.specs.Fetches.{finished}
+use Rattle.state_transfer.specs.declared.choice.Plan.{Plan}
+use Rattle.state_transfer.specs.declared.fetch.Fetch.{Fetch}
+use Rattle.state_transfer.specs.declared.fetch.Spoiled.{Spoiled}
+use Rattle.transfer_form.specs.declared.transfer.ProvenBatch.{ProvenBatch}
+use Rattle.transfer_form.specs.declared.transfer.StateAsk.{StateAsk}
 
 -- a node
 
@@ -70,9 +88,11 @@ for_batch-weaker : (P Q : Batch → Type 0) → ((batch : Batch) → P batch →
 for_batch-weaker P Q weaker None p = tt
 for_batch-weaker P Q weaker (Some batch) p = weaker batch p
 
--- a proposal's batch was met
+-- the batch of a proposal, or of a decision that others show, was met
 abbrev pub ProposalMet : (Batch → Type 0) → Message → Type 0
-ProposalMet M m = IfSome (proposal_in m) (λ p. M p.batch)
+ProposalMet M (Propose p) = M p.batch
+ProposalMet M (changes.Decision d) = M d.batch
+ProposalMet M m = Unit {0}
 
 -- and an entry's
 abbrev pub EntryMet : (Batch → Type 0) → LogEntry → Type 0
@@ -90,36 +110,39 @@ pub record NodeMet {S : Type 0} (M : Batch → Type 0) (n : Node S) : Type 0 whe
   pub arrivals : Each (ProposalMet M) n.arrivals
   pub entries : Each (EntryMet M) n.entries
   pub waiting : ForBatch n.waiting M
+  pub decisions : Each (λ (d : ProvenBatch). M d.batch) n.decisions
 
 -- replies wait to leave
 met-replying : {S : Type 0} (M : Batch → Type 0) (n : Node S) (lines : List Execution) → NodeMet M n → NodeMet M (replying n lines)
 met-replying M n [] is = is
 met-replying M n (l ∷ ls) is =
-    met-replying M (holding n (targets.Client l.client) (reply_of n.secret n.id l)) ls (record { arrivals = is.arrivals; entries = is.entries; waiting = is.waiting })
+    met-replying M (holding n (targets.Client l.client) (reply_of n.secret n.id l)) ls (record { arrivals = is.arrivals; entries = is.entries; waiting = is.waiting; decisions = is.decisions })
 
 -- an arrival is kept
 met-kept : {S : Type 0} (M : Batch → Type 0) (n : Node S) (message : Message) → ProposalMet M message → NodeMet M n → NodeMet M (kept n message)
 unfolding kept
 met-kept {S = S} M n (Ask q) met is =
     either (λ (x : Node S). NodeMet M x) (is_next n.replica.table q.statement) (record n { pool = offered n.pool q }) n
-    (record { arrivals = is.arrivals; entries = is.entries; waiting = is.waiting }) is
-met-kept M n (Propose p) met is = record { arrivals = each_end (ProposalMet M) n.arrivals (Propose p) is.arrivals met; entries = is.entries; waiting = is.waiting }
-met-kept M n (Vote b) met is = record { arrivals = each_end (ProposalMet M) n.arrivals (Vote b) is.arrivals tt; entries = is.entries; waiting = is.waiting }
+    (record { arrivals = is.arrivals; entries = is.entries; waiting = is.waiting; decisions = is.decisions }) is
+met-kept M n (Propose p) met is = record { arrivals = each_end (ProposalMet M) n.arrivals (Propose p) is.arrivals met; entries = is.entries; waiting = is.waiting; decisions = is.decisions }
+met-kept M n (Vote b) met is = record { arrivals = each_end (ProposalMet M) n.arrivals (Vote b) is.arrivals tt; entries = is.entries; waiting = is.waiting; decisions = is.decisions }
+met-kept M n (changes.Decision d) met is = record { arrivals = is.arrivals; entries = is.entries; waiting = is.waiting; decisions = each_end (λ (x : ProvenBatch). M x.batch) n.decisions d is.decisions met }
 met-kept M n (Reply a) met is = is
-met-kept M n _ met is = record { arrivals = is.arrivals; entries = is.entries; waiting = is.waiting }
+met-kept M n (changes.StateAsk a) met is = is
+met-kept M n _ met is = record { arrivals = is.arrivals; entries = is.entries; waiting = is.waiting; decisions = is.decisions }
 
 -- a node is told that it is behind
 met-noted : {S : Type 0} (M : Batch → Type 0) (n : Node S) (message : Message) → NodeMet M n → NodeMet M (noted n message)
 unfolding noted
-met-noted M n message is = record { arrivals = is.arrivals; entries = is.entries; waiting = is.waiting }
+met-noted M n message is = record { arrivals = is.arrivals; entries = is.entries; waiting = is.waiting; decisions = is.decisions }
 
 -- a node answers again
 met-answer_line : {S : Type 0} (M : Batch → Type 0) (n : Node S) (line : Option Execution) → NodeMet M n → NodeMet M (answer_line n line)
 unfolding answer_line
 met-answer_line M n None is = is
-met-answer_line M n (Some line) is = record { arrivals = is.arrivals; entries = is.entries; waiting = is.waiting }
+met-answer_line M n (Some line) is = record { arrivals = is.arrivals; entries = is.entries; waiting = is.waiting; decisions = is.decisions }
 
-met-answers_again : {S : Type 0} (M : Batch → Type 0) (n : Node S) (asked : Option Asked) → NodeMet M n → NodeMet M (answers_again n asked)
+met-answers_again : {S : Type 0} (M : Batch → Type 0) (n : Node S) (asked : Asked) → NodeMet M n → NodeMet M (answers_again n asked)
 unfolding answers_again
 met-answers_again M n asked is = met-answer_line M n (answering n asked) is
 
@@ -131,7 +154,7 @@ met-deliver_batch M m n (Some batch) is =
     met-replying M
     (record n { replica = delivered m n.replica batch; waiting = None; pool = settled (delivered m n.replica batch).table n.pool; impatient = false })
     (lines_to_answer m n batch)
-    (record { arrivals = is.arrivals; entries = is.entries; waiting = tt })
+    (record { arrivals = is.arrivals; entries = is.entries; waiting = tt; decisions = is.decisions })
 
 met-delivers : {S : Type 0} (M : Batch → Type 0) (m : Meaning S) (n : Node S) → NodeMet M n → NodeMet M (delivers m n)
 unfolding delivers
@@ -145,21 +168,21 @@ met-adopts_by M n is = with_entries (adoption n)
   where
     with_entries : (sync : Option (SignedBy Sync)) → Each (EntryMet M) (adopts_by n sync).entries → NodeMet M (adopts_by n sync)
     with_entries None each = is
-    with_entries (Some sync) each = record { arrivals = is.arrivals; entries = each; waiting = is.waiting }
+    with_entries (Some sync) each = record { arrivals = is.arrivals; entries = each; waiting = is.waiting; decisions = is.decisions }
 
 met-joins : {S : Type 0} (M : Batch → Type 0) (n : Node S) → NodeMet M n → NodeMet M (joins n)
 unfolding joins
-met-joins {S = S} M n is = either (λ (x : Node S). NodeMet M x) (joining n) (asks_next n) n (record { arrivals = is.arrivals; entries = is.entries; waiting = is.waiting }) is
+met-joins {S = S} M n is = either (λ (x : Node S). NodeMet M x) (joining n) (asks_next n) n (record { arrivals = is.arrivals; entries = is.entries; waiting = is.waiting; decisions = is.decisions }) is
 
 met-promises : {S : Type 0} (M : Batch → Type 0) (n : Node S) → NodeMet M n → NodeMet M (promises n)
 unfolding promises promise_next
 met-promises {S = S} M n is =
-    either (λ (x : Node S). NodeMet M x) (promising n) (promise_next n) n (record { arrivals = is.arrivals; entries = each_end (EntryMet M) n.entries _ is.entries tt; waiting = is.waiting }) is
+    either (λ (x : Node S). NodeMet M x) (promising n) (promise_next n) n (record { arrivals = is.arrivals; entries = each_end (EntryMet M) n.entries _ is.entries tt; waiting = is.waiting; decisions = is.decisions }) is
 
 met-lead_with : {S : Type 0} (M : Batch → Type 0) (n : Node S) (collect : Option (List (SignedBy Report))) → NodeMet M n → NodeMet M (lead_with n collect)
 unfolding lead_with
 met-lead_with M n None is = is
-met-lead_with M n (Some collect) is = record { arrivals = is.arrivals; entries = is.entries; waiting = is.waiting }
+met-lead_with M n (Some collect) is = record { arrivals = is.arrivals; entries = is.entries; waiting = is.waiting; decisions = is.decisions }
 
 met-leads : {S : Type 0} (M : Batch → Type 0) (n : Node S) → NodeMet M n → NodeMet M (leads n)
 unfolding leads
@@ -167,20 +190,72 @@ met-leads M n is = met-lead_with M n (leading n) is
 
 met-passes_on : {S : Type 0} (M : Batch → Type 0) (n : Node S) (pool : List (SignedBy Request)) → NodeMet M n → NodeMet M (passes_on n pool)
 met-passes_on M n [] is = is
-met-passes_on M n (q ∷ qs) is = record { arrivals = is.arrivals; entries = is.entries; waiting = is.waiting }
+met-passes_on M n (q ∷ qs) is = record { arrivals = is.arrivals; entries = is.entries; waiting = is.waiting; decisions = is.decisions }
+
+met-presses : {S : Type 0} (M : Batch → Type 0) (n : Node S) → NodeMet M n → NodeMet M (presses n)
+unfolding presses
+met-presses {S = S} M n is =
+    either (λ (x : Node S). NodeMet M x) n.impatient (asks_next n) (passes_on (record n { impatient = true }) n.pool) (record { arrivals = is.arrivals; entries = is.entries; waiting = is.waiting; decisions = is.decisions })
+    (met-passes_on M (record n { impatient = true }) n.pool (record { arrivals = is.arrivals; entries = is.entries; waiting = is.waiting; decisions = is.decisions }))
+
+met-asks_state : {S : Type 0} (M : Batch → Type 0) (n : Node S) → NodeMet M n → NodeMet M (asks_state n)
+unfolding asks_state
+met-asks_state M n is = record { arrivals = is.arrivals; entries = is.entries; waiting = is.waiting; decisions = is.decisions }
 
 met-times : {S : Type 0} (M : Batch → Type 0) (n : Node S) → NodeMet M n → NodeMet M (times n)
-unfolding times presses
+unfolding times
 met-times {S = S} M n is =
-    either (λ (x : Node S). NodeMet M x) (timing n) _ n
-    (either (λ (x : Node S). NodeMet M x) n.impatient (asks_next n) (passes_on (record n { impatient = true }) n.pool) (record { arrivals = is.arrivals; entries = is.entries; waiting = is.waiting })
-    (met-passes_on M (record n { impatient = true }) n.pool (record { arrivals = is.arrivals; entries = is.entries; waiting = is.waiting }))) is
+    either (λ (x : Node S). NodeMet M x) (lags n) (asks_state n) _ (met-asks_state M n is)
+    (either (λ (x : Node S). NodeMet M x) (timing n) (presses n) n (met-presses M n is) is)
+
+-- a member is answered, a plan is made, and a replica is installed
+
+met-holding_all : {S : Type 0} (M : Batch → Type 0) (n : Node S) (to : Target) (ms : List Message) → NodeMet M n → NodeMet M (holding_all n to ms)
+met-holding_all M n to [] is = is
+met-holding_all M n to (m ∷ ms) is = met-holding_all M (holding n to m) to ms (record { arrivals = is.arrivals; entries = is.entries; waiting = is.waiting; decisions = is.decisions })
+
+met-answers_state : {S : Type 0} (M : Batch → Type 0) (n : Node S) (a : StateAsk) → NodeMet M n → NodeMet M (answers_state n a)
+unfolding answers_state offers_state gives_parts
+met-answers_state {S = S} M n a is =
+    either (λ (x : Node S). NodeMet M x) (a.fetch == 0) (offers_state n a) (gives_parts n a)
+    (met-holding_all M n (targets.Node a.member) (changes.StateOffer (offer_for n a.place) ∷ shown_after n a.place) is)
+    (met-holding_all M n (targets.Node a.member) (part_messages (firm_at n a.fetch)) is)
+
+met-follow_plan : {S : Type 0} (M : Batch → Type 0) (n : Node S) (plan : Option Plan) → NodeMet M n → NodeMet M (follow_plan n plan)
+unfolding follow_plan
+met-follow_plan M n None is = is
+met-follow_plan M n (Some p) is = record { arrivals = is.arrivals; entries = is.entries; waiting = is.waiting; decisions = is.decisions }
+
+met-plans : {S : Type 0} (M : Batch → Type 0) (n : Node S) → NodeMet M n → NodeMet M (plans n)
+unfolding plans
+met-plans M n is = met-follow_plan M n (planning n) is
+
+met-install_replica : {S : Type 0} (M : Batch → Type 0) (n : Node S) (f : Fetch) (r : Replica S) → NodeMet M n → NodeMet M (install_replica n f r)
+unfolding install_replica
+met-install_replica M n f r is = record { arrivals = is.arrivals; entries = each_end (EntryMet M) n.entries (installed_by f.plan) is.entries tt; waiting = is.waiting; decisions = is.decisions }
+
+met-spoil : {S : Type 0} (M : Batch → Type 0) (n : Node S) (f : Fetch) → NodeMet M n → NodeMet M (spoil n f)
+unfolding spoil
+met-spoil M n f is = record { arrivals = is.arrivals; entries = is.entries; waiting = is.waiting; decisions = is.decisions }
+
+met-install_by : {S : Type 0} (M : Batch → Type 0) (n : Node S) (f : Fetch) (made : Result (Replica S) Spoiled) → NodeMet M n → NodeMet M (install_by n f made)
+met-install_by {S = S} M n f (Ok r) is = either (λ (x : Node S). NodeMet M x) (is_of_group n r) (install_replica n f r) (spoil n f) (met-install_replica M n f r is) (met-spoil M n f is)
+met-install_by M n f (Err why) is = met-spoil M n f is
+
+met-install_fetch : {S : Type 0} (M : Batch → Type 0) (m : Meaning S) (n : Node S) (due : Option Fetch) → NodeMet M n → NodeMet M (install_fetch m n due)
+unfolding install_fetch
+met-install_fetch M m n None is = is
+met-install_fetch M m n (Some f) is = met-install_by M n f (finished m f) is
+
+met-installs : {S : Type 0} (M : Batch → Type 0) (m : Meaning S) (n : Node S) → NodeMet M n → NodeMet M (installs m n)
+unfolding installs
+met-installs M m n is = met-install_fetch M m n (installing n) is
 
 -- a batch is proposed
 met-propose_batch : {S : Type 0} (M : Batch → Type 0) (n : Node S) (batch : Option Batch) → NodeMet M n → NodeMet M (propose_batch n batch)
 unfolding propose_batch
 met-propose_batch M n None is = is
-met-propose_batch M n (Some batch) is = record { arrivals = is.arrivals; entries = is.entries; waiting = is.waiting }
+met-propose_batch M n (Some batch) is = record { arrivals = is.arrivals; entries = is.entries; waiting = is.waiting; decisions = is.decisions }
 
 met-proposes : {S : Type 0} (M : Batch → Type 0) (n : Node S) → NodeMet M n → NodeMet M (proposes n)
 unfolding proposes
@@ -190,17 +265,22 @@ met-proposes M n is = met-propose_batch M n (proposing n) is
 met-write_batch : {S : Type 0} (M : Batch → Type 0) (n : Node S) (p : Option Proposed) → NodeMet M n → NodeMet M (write_batch n p)
 unfolding write_batch
 met-write_batch M n None is = is
-met-write_batch M n (Some p) is = record { arrivals = is.arrivals; entries = each_end (EntryMet M) n.entries _ is.entries tt; waiting = is.waiting }
+met-write_batch M n (Some p) is = record { arrivals = is.arrivals; entries = each_end (EntryMet M) n.entries _ is.entries tt; waiting = is.waiting; decisions = is.decisions }
 
 met-writes : {S : Type 0} (M : Batch → Type 0) (n : Node S) → NodeMet M n → NodeMet M (writes n)
 unfolding writes
 met-writes M n is = met-write_batch M n (writing n) is
 
+-- a mark is made
+met-mark : {S : Type 0} (M : Batch → Type 0) (m : Meaning S) (n : Node S) → NodeMet M n → NodeMet M (mark_place m n)
+unfolding mark_place
+met-mark M m n is = record { arrivals = is.arrivals; entries = each_end (EntryMet M) n.entries (Marked (mark_of m n)) is.entries tt; waiting = is.waiting; decisions = is.decisions }
+
 -- a batch is accepted
 met-accept_batch : {S : Type 0} (M : Batch → Type 0) (n : Node S) (o : Option Proposed) → ((p : Proposed) → o ≡ Some p → M p.batch) → NodeMet M n → NodeMet M (accept_batch n o)
 unfolding accept_batch
 met-accept_batch M n None met is = is
-met-accept_batch M n (Some p) met is = record { arrivals = is.arrivals; entries = each_end (EntryMet M) n.entries _ is.entries (met p refl); waiting = is.waiting }
+met-accept_batch M n (Some p) met is = record { arrivals = is.arrivals; entries = each_end (EntryMet M) n.entries _ is.entries (met p refl); waiting = is.waiting; decisions = is.decisions }
 
 written_is : {S : Type 0} (n : Node S) (o : Option Proposed) (p : Proposed) → written n o ≡ Some p → o ≡ Some p
 written_is n None p is = absurd (cc)
@@ -249,14 +329,18 @@ known-met M n number place regency is =
 met-decide_batch : {S : Type 0} (M : Batch → Type 0) (n : Node S) (o : Option Decision) → ((d : Decision) → o ≡ Some d → M d.batch) → NodeMet M n → NodeMet M (decide_batch n o)
 unfolding decide_batch
 met-decide_batch M n None met is = is
-met-decide_batch M n (Some d) met is = record { arrivals = is.arrivals; entries = each_end (EntryMet M) n.entries (Decided d) is.entries (met d refl); waiting = met d refl }
+met-decide_batch M n (Some d) met is = record { arrivals = is.arrivals; entries = each_end (EntryMet M) n.entries (Decided d) is.entries (met d refl); waiting = met d refl; decisions = is.decisions }
 
 deciding-met : {S : Type 0} (M : Batch → Type 0) (n : Node S) → NodeMet M n → (d : Decision) → deciding n ≡ Some d → M d.batch
 deciding-met M n is d at =
     let due = due_is n d at in
-    let own = each_among (λ (x : Named). M x.batch) (known (view_of n).number (next_place n) (regency_of n) n.arrivals n.entries) due.decides.named
-    (known-met M n (view_of n).number (next_place n) (regency_of n) is) due.decides.there in
-    subst (λ (x : Decision). M x.batch) (sym due.decides.decision_is) own
+    ⊎_elim
+    (λ (one : FromShown n d). subst (λ (x : Decision). M x.batch) (sym one.decision_is) (each_among (λ (x : ProvenBatch). M x.batch) n.decisions one.shown is.decisions one.there))
+    (λ (own : FromVotes n d).
+    let named = each_among (λ (x : Named). M x.batch) (known (view_of n).number (next_place n) (regency_of n) n.arrivals n.entries) own.decides.named
+    (known-met M n (view_of n).number (next_place n) (regency_of n) is) own.decides.there in
+    subst (λ (x : Decision). M x.batch) (sym own.decides.decision_is) named)
+    due.how
 
 met-decides : {S : Type 0} (M : Batch → Type 0) (n : Node S) → NodeMet M n → NodeMet M (decides n)
 unfolding decides
@@ -275,6 +359,8 @@ met-rules M = record {
   by_decides = met-decides M;
   by_times = met-times M;
   by_answers = met-answers_again M;
+  by_states = met-answers_state M;
+  by_plans = met-plans M;
 }
 
 met-step : {S : Type 0} (M : Batch → Type 0) (m : Meaning S) (n : Node S) (event : NodeEvent) → ForEvent (ProposalMet M) event → NodeMet M n → NodeMet M (step_of m n event).node
@@ -284,17 +370,20 @@ met-step {S = S} M m n event may is =
       by_rules = met-rules M;
       by_noted = met-noted M;
       by_kept = λ n message fine may is. met-kept M n message may is;
+      by_installs = met-installs M m;
       by_delivers = met-delivers M m;
-      by_firm = λ x count is. record { arrivals = is.arrivals; entries = is.entries; waiting = is.waiting };
+      by_marks = λ n waits is delivered. met-mark M m (delivers m n) delivered;
+      by_firm = λ x count is. record { arrivals = is.arrivals; entries = is.entries; waiting = is.waiting; decisions = is.decisions };
     }) may is
 
 -- more counts as met
 
 proposal-weaker : (M N : Batch → Type 0) → ((batch : Batch) → M batch → N batch) → (message : Message) → ProposalMet M message → ProposalMet N message
 proposal-weaker M N weaker (Propose p) met = weaker p.batch met
+proposal-weaker M N weaker (changes.Decision d) met = weaker d.batch met
 proposal-weaker M N weaker _ met = tt
 
-entry-weaker : (M N : Batch → Type 0) → ((batch : Batch) → M batch → N batch) → (e : LogEntry) → EntryMet M e → EntryMet N e
+pub entry-weaker : (M N : Batch → Type 0) → ((batch : Batch) → M batch → N batch) → (e : LogEntry) → EntryMet M e → EntryMet N e
 entry-weaker M N weaker (Opened o) met = tt
 entry-weaker M N weaker (Wrote w) met = tt
 entry-weaker M N weaker (Accepted a) met = weaker a.batch met
@@ -310,15 +399,14 @@ met-weaker M N weaker n is =
       arrivals = each-weaken (ProposalMet M) (ProposalMet N) (proposal-weaker M N weaker) n.arrivals is.arrivals;
       entries = each-weaken (EntryMet M) (EntryMet N) (entry-weaker M N weaker) n.entries is.entries;
       waiting = for_batch-weaker M N weaker n.waiting is.waiting;
+      decisions = each-weaken (λ (d : ProvenBatch). M d.batch) (λ (d : ProvenBatch). N d.batch) (λ d met. weaker d.batch met) n.decisions is.decisions;
     }
 
 -- a node that goes on after a crash; an opening has no batch
-pub met_reopened : {S : Type 0} (M : Batch → Type 0) (m : Meaning S) (secret : List ℕ) (id : ℕ) (view : View) (period : ℕ) (entries : List LogEntry) → Each (EntryMet M) entries
-    → NodeMet M (reopened m (outset m secret id view period) entries)
+met_reopened : {S : Type 0} (M : Batch → Type 0) (m : Meaning S) (o : Outset S) (entries : List LogEntry) → Each (EntryMet M) entries → NodeMet M (reopened m o entries)
 unfolding reopened
-met_reopened M m secret id view period [] met = record { arrivals = tt; entries = (tt, tt); waiting = tt }
-met_reopened {S = S} M m secret id view period (e ∷ es) met =
-    subst (λ (n : Node S). NodeMet M n) (sym (reopened_is m (outset m secret id view period) e es)) (record { arrivals = tt; entries = met; waiting = tt })
+met_reopened M m o [] met = record { arrivals = tt; entries = (tt, tt); waiting = tt; decisions = tt }
+met_reopened {S = S} M m o (e ∷ es) met = subst (λ (n : Node S). NodeMet M n) (sym (reopened_is m o e es)) (record { arrivals = tt; entries = met; waiting = tt; decisions = tt })
 
 -- each batch at a host was met, of all lives of its member
 pub record HostMet {S : Type 0} (M : Batch → Type 0) (h : Host S) : Type 0 where
@@ -330,16 +418,17 @@ host-weaker M N weaker h is = record { node = met-weaker M N weaker h.node is.no
 
 -- worlds
 
--- all that is held and sent has a spelling, batches of one digest have one text, and all batches at nodes and all that were chosen were met
+-- all that is held and sent has a spelling, texts that were met are one where their digests are, and all batches at nodes and all that were
+-- chosen were met
 pub record Grounded {S : Type 0} (m : Meaning S) (w : World S) : Type 0 where
   pub fit : AllFit m w
-  pub texts : TextsExact w.sent
+  pub texts : TextsExact w.sent w.marked
   pub hosts : Each (HostMet (IsMet w.sent)) w.hosts
   pub chosen : Each (IsMet w.sent) w.chosen
 
 -- so batches that were met are those of the list where their digests are
 pub grounded-exact : {S : Type 0} {m : Meaning S} (w : World S) (xs : List Batch) → Grounded m w → Each (IsMet w.sent) xs → Exact digest_of xs w.chosen
-grounded-exact w xs is met = met-exact w.sent xs w.chosen is.fit.sent is.texts met is.chosen
+grounded-exact w xs is met = met-exact w.sent w.marked xs w.chosen is.fit.sent is.texts met is.chosen
 
 -- and what was sent is read
 pub grounded-reads : {S : Type 0} {m : Meaning S} (w : World S) → Grounded m w → ReadsSent w
@@ -347,7 +436,7 @@ grounded-reads w is = fit-reads w is.fit
 
 -- the part of it that is not about spelling
 record Met {S : Type 0} (w : World S) : Type 0 where
-  texts : TextsExact w.sent
+  texts : TextsExact w.sent w.marked
   hosts : Each (HostMet (IsMet w.sent)) w.hosts
   chosen : Each (IsMet w.sent) w.chosen
 
@@ -357,7 +446,7 @@ met-posts {S = S} w s is =
     by-posts (λ (v : World S). Met v) w s
     (λ ending. record { texts = is.texts; hosts = is.hosts; chosen = is.chosen })
     (λ free room. record {
-      texts = texts-end w.sent s free is.texts;
+      texts = texts-end w.sent w.marked s free is.texts;
       hosts = each-weaken (HostMet (IsMet w.sent)) (HostMet (IsMet (w.sent ++ s ∷ []))) (host-weaker (IsMet w.sent) (IsMet (w.sent ++ s ∷ [])) (met-grows w.sent s)) w.hosts is.hosts;
       chosen = each-weaken (IsMet w.sent) (IsMet (w.sent ++ s ∷ [])) (met-grows w.sent s) w.chosen is.chosen;
     })
@@ -370,7 +459,7 @@ chosen_with-met M chosen place (Some batch) each met =
 
 -- a host's node takes an event
 met-after : {S : Type 0} (M : Batch → Type 0) (m : Meaning S) (h : Host S) (o : Outcome S) → NodeMet M o.node → HostMet M h → HostMet M (host_after (course_of m) h o)
-met-after M m h o met is = record { node = record { arrivals = met.arrivals; entries = met.entries; waiting = met.waiting }; life = life-firm (EntryMet M) h.life h.node o.node met.entries is.life }
+met-after M m h o met is = record { node = record { arrivals = met.arrivals; entries = met.entries; waiting = met.waiting; decisions = met.decisions }; life = life-firm (EntryMet M) h.life h.node o.node met.entries is.life }
 
 met-stepped : {S : Type 0} (m : Meaning S) (w : World S) (i : ℕ) (h : Host S) (o : Outcome S) → slice_get w.hosts i ≡ Some h → NodeMet (IsMet w.sent) o.node → Met w → Met (stepped (course_of m) w i h o)
 unfolding stepped
@@ -378,7 +467,7 @@ met-stepped {S = S} m w i h o at met is =
     let M : Batch → Type 0 = IsMet w.sent in
     keeps-sends_all Met h.node.id (view_of o.node) (λ v held met. met-posts v (from_node h.node.id (view_of o.node) held) met) _ (leaving o.node.firm o.node.held)
     (record {
-      texts = is.texts;
+      texts = texts-marked w.sent w.marked (flat_map snapshot_in o.fired) is.texts;
       hosts = each_set (HostMet M) w.hosts i (host_after (course_of m) h o) is.hosts (met-after M m h o met (each_get (HostMet M) w.hosts i h is.hosts at));
       chosen = chosen_with-met M w.chosen (next_place o.node) o.node.waiting is.chosen met.waiting;
     })
@@ -392,8 +481,17 @@ has-met (s ∷ sent) p has =
       | inr later ↦ has-right (batches s.content) (batches_met sent) p.batch (has-met sent p later)
     ]
 
+shown-met : (sent : List Sent) (d : ProvenBatch) → HasMessage sent (changes.Decision d) → IsMet sent d.batch
+shown-met [] d has = absurd has
+shown-met (s ∷ sent) d has =
+    elim has [
+      | inl here ↦ has-left (batches s.content) (batches_met sent) d.batch (subst (λ (y : Content). HasBatch (batches y) d.batch) (sym here) (inl refl))
+      | inr later ↦ has-right (batches s.content) (batches_met sent) d.batch (shown-met sent d later)
+    ]
+
 message-met : (sent : List Sent) (message : Message) → HasMessage sent message → ProposalMet (IsMet sent) message
 message-met sent (Propose p) has = has-met sent p has
+message-met sent (changes.Decision d) has = shown-met sent d has
 message-met sent _ has = tt
 
 -- what may come
@@ -402,6 +500,10 @@ event-met w h (Arrive bytes) may = comes-as w.sent bytes (ForRead (ProposalMet (
 event-met w h Tick may = tt
 event-met w h Deliver may = tt
 event-met w h (Firm count) may = tt
+
+-- what a node has then
+pub step-met : {S : Type 0} (m : Meaning S) (w : World S) (i : ℕ) (h : Host S) (event : NodeEvent) → slice_get w.hosts i ≡ Some h → MayRead w h event → Grounded m w → NodeMet (IsMet w.sent) (step_of m h.node event).node
+step-met m w i h event at may is = met-step (IsMet w.sent) m h.node event (event-met w h event may) (each_get (HostMet (IsMet w.sent)) w.hosts i h is.hosts at).node
 
 part : {S : Type 0} {m : Meaning S} (w : World S) → Grounded m w → Met w
 part w is = record { texts = is.texts; hosts = is.hosts; chosen = is.chosen }
@@ -413,30 +515,37 @@ whole w fit is = record { fit = fit; texts = is.texts; hosts = is.hosts; chosen 
 met-set : {S : Type 0} {m : Meaning S} (w : World S) (i : ℕ) (h : Host S) → AllFit m (with_host w i h) → HostMet (IsMet w.sent) h → Grounded m w → Grounded m (with_host w i h)
 met-set w i h fit met is = record { fit = fit; texts = is.texts; hosts = each_set (HostMet (IsMet w.sent)) w.hosts i h is.hosts met; chosen = is.chosen }
 
--- a node goes on from entries whose batches were met
-pub grounded-resumes : {S : Type 0} (m : Meaning S) → IsBrief m → (w : World S) (i : ℕ) (h : Host S) → slice_get w.hosts i ≡ Some h → is_view w.view ≡ true → entries_in (entries_left h) ≡ h.life.diary
-    → length (decided_of 0 h.life.diary) < 2 ^ 63 → Grounded m w → Grounded m (with_host w i (host_resumed h (node_resumed (course_of m) w h)))
-grounded-resumes {S = S} m brief w i h at viewed same few is =
+-- a node goes on over the cut of its member's diary
+pub grounded-resumes : {S : Type 0} (m : Meaning S) → IsBrief m → (w : World S) (i : ℕ) (h : Host S) (stated : List Statement) (place : ℕ) (checkpoint : Option OwnSnapshot) → slice_get w.hosts i ≡ Some h
+    → AreRestorable m w.view w.chosen → w.period < 2 ^ 32 → node_resumed (course_of m) w h ≡ node_behind m group_secret h.node.id w.view w.period place w.chosen checkpoint h.life.diary
+    → GoesBehind group_secret stated w.view place w.chosen h.life.diary → (place ≡ 0 → checkpoint ≡ None) → IfSome checkpoint FitsSnapshot → Grounded m w
+    → Grounded m (with_host w i (host_resumed h (node_resumed (course_of m) w h)))
+grounded-resumes {S = S} m brief w i h stated place checkpoint at may low same goes none own is =
     let met : HostMet (IsMet w.sent) h = each_get (HostMet (IsMet w.sent)) w.hosts i h is.hosts at in
     let node : NodeMet (IsMet w.sent) (node_resumed (course_of m) w h) =
-    met_reopened (IsMet w.sent) m group_secret h.node.id w.view period (entries_in (entries_left h)) (subst (λ (es : List LogEntry). Each (EntryMet (IsMet w.sent)) es) (sym same) met.life.diary) in
-    met-set w i (host_resumed h (node_resumed (course_of m) w h)) (fit-resumes m brief w i h at viewed same few is.fit) (record { node = node; life = met.life }) is
+    subst (λ (n : Node S). NodeMet (IsMet w.sent) n) (sym same)
+    (met_reopened (IsMet w.sent) m (outset_behind m group_secret h.node.id w.view w.period place w.chosen checkpoint) (cut_at place h.life.diary) (cut_each (EntryMet (IsMet w.sent)) place h.life.diary met.life.diary)) in
+    met-set w i (host_resumed h (node_resumed (course_of m) w h)) (fit-resumes m brief w i h stated place checkpoint at may low same goes none own is.fit) (record { node = node; life = met.life }) is
 
--- each event keeps that
-pub keeps-grounded : {S : Type 0} (m : Meaning S) → IsBrief m → Keeps (course_of m) (Grounded m)
+-- a node takes an event, if what it may take over is small
+pub grounded-event : {S : Type 0} (m : Meaning S) → IsBrief m → (w : World S) (i : ℕ) (h : Host S) (event : NodeEvent) → slice_get w.hosts i ≡ Some h → MayCome w h event → Settles m (takes_in h.node event).node → Grounded m w
+    → Grounded m (stepped (course_of m) w i h (step_of m h.node event))
+grounded-event m brief w i h event at may settles is =
+    whole (stepped (course_of m) w i h (step_of m h.node event)) (fit-event m brief w i h event at may settles is.fit)
+    (met-stepped m w i h (step_of m h.node event) at
+    (met-step (IsMet w.sent) m h.node event (event-met w h event (may_read w h event (grounded-reads w is) may))
+    (each_get (HostMet (IsMet w.sent)) w.hosts i h is.hosts at).node) (part w is))
+
+-- each other event keeps that
+pub keeps-grounded : {S : Type 0} (m : Meaning S) → KeepsBut (course_of m) (Grounded m)
 unfolding hearing
-keeps-grounded {S = S} m brief =
-    let k : Keeps (course_of m) (AllFit m) = keeps-fit m brief in
+keeps-grounded {S = S} m =
+    let k : KeepsBut (course_of m) (AllFit m) = keeps-fit m in
     record {
-      event = λ w i h event up at may is.
-          whole (stepped (course_of m) w i h (step_of m h.node event)) (k.event w i h event up at may is.fit)
-          (met-stepped m w i h (step_of m h.node event) at
-          (met-step (IsMet w.sent) m h.node event (event-met w h event (may_read w h event (grounded-reads w is) may))
-          (each_get (HostMet (IsMet w.sent)) w.hosts i h is.hosts at).node) (part w is));
       disk = λ w i h up at is.
           let met : HostMet (IsMet w.sent) h = each_get (HostMet (IsMet w.sent)) w.hosts i h is.hosts at in
           met-set w i (after_call (course_of m) h) (k.disk w i h up at is.fit)
-          (record { node = met.node; life = life-called (EntryMet (IsMet w.sent)) h.life (store_called never no_tail h.store) met.life }) is;
+          (record { node = met.node; life = life-called (EntryMet (IsMet w.sent)) h.life (store_after h) met.life }) is;
       crash = λ w i h left up at may is.
           let met : HostMet (IsMet w.sent) h = each_get (HostMet (IsMet w.sent)) w.hosts i h is.hosts at in
           met-set w i (host_crashed (course_of m) h left) (k.crash w i h left up at may is.fit)
@@ -451,14 +560,15 @@ keeps-grounded {S = S} m brief =
       inject = λ w x read fine is. whole (posts w (from_script x)) (k.inject w x read fine is.fit) (met-posts w (from_script x) (part w is));
       declare = λ w faulty rogue ending how is. record { fit = k.declare w faulty rogue ending how is.fit; texts = is.texts; hosts = is.hosts; chosen = is.chosen };
       same = λ w mark told is. record { fit = k.same w mark told is.fit; texts = is.texts; hosts = is.hosts; chosen = is.chosen };
+      meet = λ w texts on is. record { fit = k.meet w texts on is.fit; texts = texts-marked w.sent w.marked texts is.texts; hosts = is.hosts; chosen = is.chosen };
     }
 
 -- the beginning
 
-hosts_met : {S : Type 0} (M : Batch → Type 0) (m : Meaning S) (view : View) (ids : List ℕ) → Each (HostMet M) (hosts_from m view ids)
-hosts_met M m view [] = tt
-hosts_met M m view (id ∷ ids) = (record { node = record { arrivals = tt; entries = (tt, tt); waiting = tt }; life = record { diary = tt; aside = tt } }, hosts_met M m view ids)
+hosts_met : {S : Type 0} (M : Batch → Type 0) (m : Meaning S) (view : View) (period : ℕ) (ids : List ℕ) → Each (HostMet M) (hosts_from m view period ids)
+hosts_met M m view period [] = tt
+hosts_met M m view period (id ∷ ids) = (record { node = record { arrivals = tt; entries = (tt, tt); waiting = tt; decisions = tt }; life = record { diary = tt; aside = tt } }, hosts_met M m view period ids)
 
-pub grounded-begun : {S : Type 0} (m : Meaning S) (view : View) → is_view view ≡ true → Grounded m (begun m view)
-grounded-begun m view is =
-    record { fit = fit-begun m view is; texts = record { same = λ a b ma mb same. absurd ma }; hosts = hosts_met (IsMet []) m view view.members; chosen = tt }
+pub grounded-begun : {S : Type 0} (m : Meaning S) (g : Header) → IsHeader g → Grounded m (begun m g)
+grounded-begun m g is =
+    record { fit = fit-begun m g is; texts = record { same = λ a b ma mb same. absurd ma }; hosts = hosts_met (IsMet []) m g.view g.period g.view.members; chosen = tt }

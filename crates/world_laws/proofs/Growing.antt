@@ -2,30 +2,29 @@
 use Rattle.std.proofs.Common.{◌≡◌, ℕ, zero, suc, ◌≤◌, ◌==◌, Bool, true, false, List, [], ◌∷◌, length, refl, sym, cond, Some, subst, take}
 use Rattle.node_rules.specs.Nodes.{view_of}
 use Rattle.std.specs.Prelude.{slice_get, slice_set}
-use Rattle.smart_base.specs.Views.{View}
 use Rattle.smart_statements.specs.Forms.{SignedBy}
 use Rattle.smart_statements.specs.declared.statement.Answer.{Answer}
 use Rattle.smart_statements.specs.declared.entry.NodeEvent.{NodeEvent}
 use Rattle.smart_service.specs.Services.{Meaning}
 use Rattle.vote_book.specs.declared.entry.LogEntry.{LogEntry}
 use Rattle.node_rules.specs.Steps.{Outcome, step_of, leaving}
-use Rattle.node_rules.specs.Reopening.{entries_in}
 use Rattle.client_quorum.specs.declared.client.Client.{Client}
 use Rattle.client_quorum.specs.declared.client.Acceptance.{Acceptance}
 use Rattle.client_quorum.specs.declared.client.Heard.{Heard}
 use Rattle.world_rules.specs.Clients.{heard}
-use Rattle.world_rules.specs.Secrets.{group_secret, period}
+use Rattle.world_rules.specs.Secrets.{group_secret}
 use Rattle.world_rules.specs.Stated.{diary_of, diary}
-use Rattle.world_rules.specs.Worlds.{Course, course_of, Host, World, host_of, posts, stepped, host_after, host_crashed, host_resumed, acceptance_in, hearing}
+use Rattle.world_rules.specs.Worlds.{Course, course_of, Host, World, host_of, posts, stepped, host_after, host_crashed, host_resumed, acceptance_in, hearing, parts_held}
 use Rattle.world_rules.specs.declared.line.Line.{Line}
 use Rattle.world_rules.specs.declared.message.Sent.{Sent}
 use Rattle.world_laws.specs.Promises.{world_at}
-use Rattle.world_laws.proofs.Keeps.{ask_of, asked_by, by-posts, KeepsAll, keeps-world_after, signed_by, after_call, entries_left, node_resumed, from_node, from_client, from_script, keeps-sends_all}
+use Rattle.world_laws.proofs.Keeps.{ask_of, asked_by, by-posts, KeepsAll, keeps-world_after, signed_by, after_call, node_resumed, from_node, from_client, from_script, keeps-sends_all}
 use Rattle.world_laws.proofs.Fronts.{front-same, front-append}
-use Rattle.world_laws.proofs.ChosenLives.{named}
+use Rattle.world_laws.proofs.Reopens.{from_named}
 use Rattle.world_laws.proofs.Past.{world-more}
 use Rattle.replica_laws.proofs.Follows.{follows-step}
 use Rattle.agreement_laws.proofs.Lists.{some_equal}
+use Rattle.world_rules.specs.declared.line.Header.{Header}
 
 -- what was sent and what was accepted
 
@@ -63,24 +62,25 @@ keeps-grown course sent accepted =
         inject = λ w x read fine is. grown-posts sent accepted w (from_script x) is;
         declare = λ w faulty rogue ending how is. record { has_sent = is.has_sent; has_accepted = is.has_accepted };
         same = λ w mark told is. record { has_sent = is.has_sent; has_accepted = is.has_accepted };
+        meet = λ w texts on is. record { has_sent = is.has_sent; has_accepted = is.has_accepted };
       };
       resume = λ w i h down at is. record { has_sent = is.has_sent; has_accepted = is.has_accepted };
     }
 
-grown-at : {S : Type 0} (m : Meaning S) (view : View) (ls : List Line) (j k : ℕ) → j ≤ k → Grown (world_at m view ls j).sent (world_at m view ls j).accepted (world_at m view ls k)
-grown-at {S = S} m view ls j k le =
-    let w : World S = world_at m view ls j in
-    let later = world-more m view ls j k le in
+grown-at : {S : Type 0} (m : Meaning S) (g : Header) (ls : List Line) (j k : ℕ) → j ≤ k → Grown (world_at m g ls j).sent (world_at m g ls j).accepted (world_at m g ls k)
+grown-at {S = S} m g ls j k le =
+    let w : World S = world_at m g ls j in
+    let later = world-more m g ls j k le in
     subst (λ (v : World S). Grown w.sent w.accepted v) (sym later.1)
     (keeps-world_after (course_of m) (λ (v : World S). Grown w.sent w.accepted v) (keeps-grown (course_of m) w.sent w.accepted) w later.0 (record { has_sent = front-same w.sent; has_accepted = front-same w.accepted }))
 
 -- of two fronts of a script, what was sent after the shorter is a front of what was sent after the longer, and so is what was accepted
-pub sent-grows : {S : Type 0} (m : Meaning S) (view : View) (ls : List Line) (j k : ℕ) → j ≤ k → take (length (world_at m view ls j).sent) (world_at m view ls k).sent ≡ (world_at m view ls j).sent
-sent-grows m view ls j k le = (grown-at m view ls j k le).has_sent
+pub sent-grows : {S : Type 0} (m : Meaning S) (g : Header) (ls : List Line) (j k : ℕ) → j ≤ k → take (length (world_at m g ls j).sent) (world_at m g ls k).sent ≡ (world_at m g ls j).sent
+sent-grows m g ls j k le = (grown-at m g ls j k le).has_sent
 
-pub accepted-grows : {S : Type 0} (m : Meaning S) (view : View) (ls : List Line) (j k : ℕ) → j ≤ k
-    → take (length (world_at m view ls j).accepted) (world_at m view ls k).accepted ≡ (world_at m view ls j).accepted
-accepted-grows m view ls j k le = (grown-at m view ls j k le).has_accepted
+pub accepted-grows : {S : Type 0} (m : Meaning S) (g : Header) (ls : List Line) (j k : ℕ) → j ≤ k
+    → take (length (world_at m g ls j).accepted) (world_at m g ls k).accepted ≡ (world_at m g ls j).accepted
+accepted-grows m g ls j k le = (grown-at m g ls j k le).has_accepted
 
 -- diaries
 
@@ -142,16 +142,17 @@ keeps-diary m front member =
         inject = λ w x read fine is. begins-posts front member w (from_script x) is;
         declare = λ w faulty rogue ending how is. is;
         same = λ w mark told is. is;
+        meet = λ w texts on is. is;
       };
       resume = λ w i h down at is. diary-set front member w.hosts i h (host_resumed h (node_resumed (course_of m) w h)) at
-          (named m group_secret h.node.id w.view period (entries_in (entries_left h))).name (λ own. own) is;
+          (from_named m group_secret h.node.id w.view w.period (parts_held h)) (λ own. own) is;
     }
 
 -- of two fronts of a script, a member's diary after the shorter is a front of its diary after the longer
-pub diaries-grow : {S : Type 0} (m : Meaning S) (view : View) (ls : List Line) (j k : ℕ) → j ≤ k → (member : ℕ)
-    → take (length (diary (world_at m view ls j) member)) (diary (world_at m view ls k) member) ≡ diary (world_at m view ls j) member
-diaries-grow {S = S} m view ls j k le member =
-    let w : World S = world_at m view ls j in
-    let later = world-more m view ls j k le in
+pub diaries-grow : {S : Type 0} (m : Meaning S) (g : Header) (ls : List Line) (j k : ℕ) → j ≤ k → (member : ℕ)
+    → take (length (diary (world_at m g ls j) member)) (diary (world_at m g ls k) member) ≡ diary (world_at m g ls j) member
+diaries-grow {S = S} m g ls j k le member =
+    let w : World S = world_at m g ls j in
+    let later = world-more m g ls j k le in
     subst (λ (v : World S). take (length (diary w member)) (diary v member) ≡ diary w member) (sym later.1)
     (keeps-world_after (course_of m) (λ (v : World S). Begins (diary w member) member v.hosts) (keeps-diary m (diary w member) member) w later.0 (front-same (diary w member)))

@@ -20,10 +20,10 @@ use Rattle.smart_statements.specs.declared.entry.NodeEvent.TheVariants.{Arrive, 
 use Rattle.replica_rules.specs.Seals.{signed}
 use Rattle.node_rules.specs.Nodes.{Node, next_place, view_of}
 use Rattle.node_rules.specs.Steps.{Outcome, leaving}
-use Rattle.node_rules.specs.Reopening.{reopened, damaged, entries_in}
-use Rattle.store_laws.specs.Restored.{Images, restores}
-use Rattle.store_laws.specs.States.{MayLeave, is_due, store_called}
-use Rattle.world_rules.specs.Crashes.{images_left, wrong_images, bytes_held}
+use Rattle.node_rules.specs.Reopening.{reopened_from, damage_of}
+use Rattle.store_laws.specs.Restored.{Images}
+use Rattle.store_laws.specs.States.{MayLeave, is_due}
+use Rattle.world_rules.specs.Crashes.{images_left, wrong_images}
 use Rattle.world_rules.specs.declared.crash.Image.{Image}
 use Rattle.world_rules.specs.declared.crash.Patch.{Patch}
 use Rattle.world_rules.specs.declared.crash.NotAnImage as stores
@@ -31,13 +31,13 @@ use Rattle.member_store.proofs.Told.{may_leave}
 use Rattle.node_rules.specs.declared.node.Held.{Held}
 use Rattle.node_rules.specs.declared.node.Target.TheVariants as targets
 use Rattle.world_rules.specs.Secrets.{group_secret}
-use Rattle.world_rules.specs.Premises.{is_among, too_many, is_forged, met, texts_in, collides, bytes_of}
+use Rattle.world_rules.specs.Premises.{is_among, too_many, is_forged, texts_in, collides, texts_met, bytes_of}
 use Rattle.world_rules.specs.Injections.{content_by, content_of, are_bytes, content_from, injected_bytes, injected}
 use Rattle.client_quorum.specs.Clients.{request_of, asking, learning, reply_read}
 use Rattle.world_rules.specs.Clients.{heard}
-use Rattle.world_rules.specs.Worlds.{Course, Host, World, is_up, remembered, life_called, host_crashed, crashes_with, host_crashes, crashes, host_resumed, resumes_from, host_resumes, resumes, restart_at, at_host, summary, telling, posts, sends_all, told_drop, told_fired, host_after, chosen_with, stepped, is_gone, is_rogue, host_takes, node_takes, disk_called, hears_firm, host_calls, calls_disk, takes_due, settle_once, settle, told_absent, settle_present, settle_all, gives, hearing, client_hears, hears_bytes, client_takes, client_asks, ask_found, asks, client_repeats, repeat_found, repeats, learns, learns_from, tells, goes, flow_sent, flow_once, is_listed, where_listed, at_listed, each_listed, host_index, at_index, at_member, arrives, arrives_at, sent_arrives, give_number, told_idle, telling_all, host_tries, tries_at, tries_each, give_one, shown_host, shown_client, shows, declares_faulty, declares_rogue, injects_content, injects, is_halted, heard_by, reaches, outset_of}
+use Rattle.world_rules.specs.Worlds.{Course, Host, World, is_up, remembered, life_called, switching_after, store_after, parts_held, host_crashed, crashes_with, host_crashes, crashes, host_resumed, resumes_from, host_resumes, resumes, restart_at, at_host, summary, telling, posts, sends_all, told_drop, told_fired, host_after, chosen_with, stepped, is_gone, is_rogue, host_takes, node_takes, disk_called, hears_firm, host_calls, calls_disk, takes_due, settle_once, settle, told_absent, settle_present, settle_all, gives, hearing, client_hears, hears_bytes, client_takes, client_asks, ask_found, asks, client_repeats, repeat_found, repeats, learns, learns_from, tells, goes, flow_sent, flow_once, is_listed, where_listed, at_listed, each_listed, host_index, at_index, at_member, arrives, arrives_at, sent_arrives, give_number, told_idle, telling_all, host_tries, tries_at, tries_each, give_one, shown_host, shown_client, shows, declares_faulty, declares_rogue, injects_content, injects, is_halted, heard_by, reaches, meets, snapshot_in, takes_met}
 use Rattle.world_rules.specs.Repeats.{repeated}
-use Rattle.store_laws.specs.Unswitched.{never, no_tail}
+use Rattle.store_laws.specs.Stops.{is_installed}
 use Rattle.world_rules.specs.Plays.{line_played, rested, world_after}
 use Rattle.client_quorum.specs.declared.client.Client.{Client}
 use Rattle.client_quorum.specs.declared.client.Heard.{Heard}
@@ -54,6 +54,9 @@ use Rattle.world_rules.specs.declared.message.Ending.TheVariants.{Limit, Premise
 use Rattle.world_rules.specs.declared.message.Premise.TheVariants.{TooManyFaulty, Forged, Collision, NotAnImage}
 use Rattle.world_rules.specs.declared.line.Injection.{Injection}
 use Rattle.world_laws.specs.Sending.{IsUnread}
+use Rattle.vote_book.specs.Books.{Among}
+use Rattle.node_rules.specs.Transfers.{completed_by}
+use Rattle.world_laws.proofs.Meeting.{all-met}
 use Rattle.world_laws.proofs.Lists.{repeated_keeps, until_rest_keeps, each_from_keeps}
 use Rattle.std.specs.List.{flat_map}
 use Rattle.smart_base.specs.declared.party.Party.{Party}
@@ -105,6 +108,12 @@ MayCome w h Tick = Unit {0}
 MayCome w h Deliver = Unit {0}
 MayCome w h (Firm count) = Hears h count
 
+-- What may come to a node while nothing has ended the play. The text that it completes was met.
+pub record MayTake {S : Type 0} (w : World S) (h : Host S) (event : NodeEvent) : Type 0 where
+  pub on : w.ending ≡ None
+  pub come : MayCome w h event
+  pub met : Each (λ text. Among text (texts_met w.sent w.marked)) (completed_by h.node event)
+
 -- how a content is read: a message whose parts have spellings, if it is not too long, from it as itself, and bytes that are none, not at all
 abbrev pub IsRead : Content → Type 0
 IsRead (contents.Message message) = FitsContent message
@@ -132,18 +141,18 @@ with_host w i h = record w { hosts = slice_set w.hosts i h }
 
 -- the host whose store has made its next device call, and whose node has heard nothing of it
 abbrev pub after_call : {S : Type 0} → Course S → Host S → Host S
-after_call course h = record h { store = store_called never no_tail h.store; life = remembered course h.life (life_called h.life (store_called never no_tail h.store)) }
+after_call course h = record h { store = store_after h; switching = switching_after h (store_after h); life = remembered course h.life (life_called h.life (store_after h)) }
 
 -- the world with that host
 abbrev pub called : {S : Type 0} → Course S → World S → ℕ → Host S → World S
 called course w i h = with_host w i (after_call course h)
 
--- the entries that the devices of a host hold, and the node that goes on from them
+-- the entries that the devices of a host hold, and the node that goes on from what they hold
 abbrev pub entries_left : {S : Type 0} → Host S → List (List ℕ)
-entries_left h = (restores (bytes_held h.store)).entries
+entries_left h = (parts_held h).entries
 
 abbrev pub node_resumed : {S : Type 0} → Course S → World S → Host S → Node S
-node_resumed course w h = reopened course.meaning (outset_of course.meaning w.view h.node.id) (entries_in (entries_left h))
+node_resumed course w h = reopened_from course.meaning group_secret h.node.id w.view w.period (parts_held h)
 
 -- what it tells
 abbrev pub resumed_line : {S : Type 0} → Course S → World S → Host S → OutLine
@@ -162,9 +171,10 @@ learned_line c place = outs.Learned c.id (learning c place).seen
 
 -- a transcript line that tells of no place that a client knows: of no accepted reply, and of none that it was told
 abbrev pub IsBeside : OutLine → Type 0
-IsBeside (outs.Group members faulty app) = Unit {0}
+IsBeside (outs.Group members faulty app period) = Unit {0}
 IsBeside (outs.Sent number origin summary) = Unit {0}
 IsBeside (outs.Decided member place) = Unit {0}
+IsBeside (outs.Installed member place) = Unit {0}
 IsBeside (outs.Delivered member place executed) = Unit {0}
 IsBeside (outs.Promised member number regency) = Unit {0}
 IsBeside (outs.Synced member number regency base bound) = Unit {0}
@@ -186,9 +196,10 @@ IsBeside (outs.End lines messages) = Unit {0}
 
 -- a transcript line that tells of no delivery and no restart either
 abbrev pub IsAside : OutLine → Type 0
-IsAside (outs.Group members faulty app) = Unit {0}
+IsAside (outs.Group members faulty app period) = Unit {0}
 IsAside (outs.Sent number origin summary) = Unit {0}
 IsAside (outs.Decided member place) = Unit {0}
+IsAside (outs.Installed member place) = ⊥
 IsAside (outs.Delivered member place executed) = ⊥
 IsAside (outs.Promised member number regency) = Unit {0}
 IsAside (outs.Synced member number regency base bound) = Unit {0}
@@ -210,9 +221,10 @@ IsAside (outs.End lines messages) = Unit {0}
 
 -- it tells of no place either
 pub aside_beside : (line : OutLine) → IsAside line → IsBeside line
-aside_beside (outs.Group members faulty app) aside = tt
+aside_beside (outs.Group members faulty app period) aside = tt
 aside_beside (outs.Sent number origin summary) aside = tt
 aside_beside (outs.Decided member place) aside = tt
+aside_beside (outs.Installed member place) aside = absurd aside
 aside_beside (outs.Delivered member place executed) aside = absurd aside
 aside_beside (outs.Promised member number regency) aside = tt
 aside_beside (outs.Synced member number regency base bound) aside = tt
@@ -242,7 +254,34 @@ pub record Declares {S : Type 0} (w : World S) (faulty rogue : List ℕ) (ending
 -- a fact on worlds that each event keeps, but that a node goes on
 pub record Keeps {S : Type 0} (course : Course S) (P : World S → Type 0) : Type 0 where
   -- the node of a host takes an event
-  pub event : (w : World S) (i : ℕ) (h : Host S) (event : NodeEvent) → IsUp w h → slice_get w.hosts i ≡ Some h → MayCome w h event → P w → P (stepped course w i h (course.step h.node event))
+  pub event : (w : World S) (i : ℕ) (h : Host S) (event : NodeEvent) → IsUp w h → slice_get w.hosts i ≡ Some h → MayTake w h event → P w → P (stepped course w i h (course.step h.node event))
+  -- texts are met
+  pub meet : (w : World S) (texts : List (List ℕ)) → w.ending ≡ None → P w → P (meets w texts)
+  -- the store of a host makes a device call
+  pub disk : (w : World S) (i : ℕ) (h : Host S) → IsUp w h → slice_get w.hosts i ≡ Some h → P w → P (called course w i h)
+  -- the node of a host stops, and a crash leaves this of its devices
+  pub crash : (w : World S) (i : ℕ) (h : Host S) (left : Images) → IsUp w h → slice_get w.hosts i ≡ Some h → MayLeave h.store.devices left → P w → P (with_host w i (host_crashed course h left))
+  -- a client hears the bytes of a content that are read as a reply
+  pub hear : (w : World S) (i : ℕ) (c : Client) (x : Content) (a : SignedBy Answer) → slice_get w.clients i ≡ Some c → HasContent w.sent x → decoded (bytes_of x) ≡ Ok (Reply a)
+      → P w → P (hearing w i c a (heard w.view c a))
+  -- a client asks
+  pub ask : (w : World S) (i : ℕ) (c : Client) (op : List ℕ) → slice_get w.clients i ≡ Some c → c.waiting ≡ None → c.last + 1 < 2 ^ 63 → length op ≤ 4096 → P w
+      → P (posts (asked_by w i c op) (from_client w.view c (ask_of c op)))
+  -- a client sends the request that waits once more
+  pub again : (w : World S) (i : ℕ) (c : Client) (q : Request) → slice_get w.clients i ≡ Some c → c.waiting ≡ Some q → P w → P (posts w (from_client w.view c (signed_by c q)))
+  -- a client learns of the greatest place that another knows
+  pub learn : (w : World S) (i j : ℕ) (c d : Client) → slice_get w.clients i ≡ Some c → slice_get w.clients j ≡ Some d → P w → P (learned_by w i c d.seen)
+  -- a script injects what is not forged
+  pub inject : (w : World S) (x : Content) → IsRead x → is_forged w.faulty w.rogue w.sent x ≡ false → P w → P (posts w (from_script x))
+  -- a member is faulty or a client is rogue from now on, or the play ends
+  pub declare : (w : World S) (faulty rogue : List ℕ) (ending : Option Ending) → Declares w faulty rogue ending → P w → P (record w { faulty = faulty; rogue = rogue; ending = ending })
+  -- nothing but the flow's mark and the transcript changes
+  pub same : (w : World S) (mark : ℕ) (told : List OutLine) → P w → P (record w { mark = mark; told = told })
+
+-- the same, but that a node takes an event
+pub record KeepsBut {S : Type 0} (course : Course S) (P : World S → Type 0) : Type 0 where
+  -- texts are met
+  pub meet : (w : World S) (texts : List (List ℕ)) → w.ending ≡ None → P w → P (meets w texts)
   -- the store of a host makes a device call
   pub disk : (w : World S) (i : ℕ) (h : Host S) → IsUp w h → slice_get w.hosts i ≡ Some h → P w → P (called course w i h)
   -- the node of a host stops, and a crash leaves this of its devices
@@ -273,8 +312,10 @@ pub record KeepsAll {S : Type 0} (course : Course S) (P : World S → Type 0) : 
 -- a fact on worlds that each event of members that run keeps, while nothing has ended the play
 pub record KeepsLive {S : Type 0} (course : Course S) (P : World S → Type 0) : Type 0 where
   -- the node of a host takes an event
-  pub event : (w : World S) (i : ℕ) (h : Host S) (event : NodeEvent) → w.ending ≡ None → IsUp w h → slice_get w.hosts i ≡ Some h → MayCome w h event → P w
+  pub event : (w : World S) (i : ℕ) (h : Host S) (event : NodeEvent) → w.ending ≡ None → IsUp w h → slice_get w.hosts i ≡ Some h → MayTake w h event → P w
       → P (stepped course w i h (course.step h.node event))
+  -- texts are met
+  pub meet : (w : World S) (texts : List (List ℕ)) → w.ending ≡ None → P w → P (meets w texts)
   -- the store of a host makes a device call
   pub disk : (w : World S) (i : ℕ) (h : Host S) → w.ending ≡ None → IsUp w h → slice_get w.hosts i ≡ Some h → P w → P (called course w i h)
   -- a client hears the bytes of a content that are read as a reply
@@ -311,8 +352,10 @@ pub record KeepsLives {S : Type 0} (course : Course S) (P : World S → Type 0) 
 -- the same of all that happens but that somebody is declared faulty or rogue
 pub record KeepsCalm {S : Type 0} (course : Course S) (P : World S → Type 0) : Type 0 where
   -- the node of a host takes an event
-  pub event : (w : World S) (i : ℕ) (h : Host S) (event : NodeEvent) → w.ending ≡ None → IsUp w h → slice_get w.hosts i ≡ Some h → MayCome w h event → P w
+  pub event : (w : World S) (i : ℕ) (h : Host S) (event : NodeEvent) → w.ending ≡ None → IsUp w h → slice_get w.hosts i ≡ Some h → MayTake w h event → P w
       → P (stepped course w i h (course.step h.node event))
+  -- texts are met
+  pub meet : (w : World S) (texts : List (List ℕ)) → w.ending ≡ None → P w → P (meets w texts)
   -- the store of a host makes a device call
   pub disk : (w : World S) (i : ℕ) (h : Host S) → w.ending ≡ None → IsUp w h → slice_get w.hosts i ≡ Some h → P w → P (called course w i h)
   -- a client hears the bytes of a content that are read as a reply
@@ -356,6 +399,7 @@ pub calm : {S : Type 0} (course : Course S) (P : World S → Type 0) → KeepsLi
 calm course P k =
     record {
       event = k.event;
+      meet = k.meet;
       disk = k.disk;
       hear = k.hear;
       ask = k.ask;
@@ -375,6 +419,7 @@ pub live : {S : Type 0} (course : Course S) (P : World S → Type 0) → Keeps c
 live course P k =
     record {
       event = λ w i h event on up at may p. k.event w i h event up at may p;
+      meet = λ w texts on p. k.meet w texts on p;
       disk = λ w i h on up at p. k.disk w i h up at p;
       hear = λ w i c x a on at has read p. k.hear w i c x a at has read p;
       ask = λ w i c op on at free low brief p. k.ask w i c op at free low brief p;
@@ -410,17 +455,17 @@ ended_or : (ending : Option Ending) (e : Ending) → or_else ending (Some e) ≡
 ended_or None e none = cc
 ended_or (Some f) e none = cc
 
--- what is sent has left, and clashes with none before; or the play has ended, and nothing else has changed
+-- what is sent has left, and clashes with no text that was met; or the play has ended, and nothing else has changed
 pub by-posts-ended : {S : Type 0} (P : World S → Type 0) (w : World S) (s : Sent) → ((ending : Option Ending) → (ending ≡ None → ⊥) → P (record w { ending = ending }))
-    → (collides (met w.sent) (texts_in s.content) ≡ false → nat_lt (length w.sent) (2 ^ 24) ≡ true → P (numbered w s)) → P (posts w s)
+    → (collides (texts_met w.sent w.marked) (texts_in s.content) ≡ false → nat_lt (length w.sent) (2 ^ 24) ≡ true → P (numbered w s)) → P (posts w s)
 unfolding posts
 by-posts-ended P w s over on =
-    either_by P (collides (met w.sent) (texts_in s.content)) _ _ (λ clashes. over (Some (Premise Collision)) (λ none. ended_or None (Premise Collision) none))
+    either_by P (collides (texts_met w.sent w.marked) (texts_in s.content)) _ _ (λ clashes. over (Some (Premise Collision)) (λ none. ended_or None (Premise Collision) none))
     (λ free. either_by P (nat_lt (length w.sent) (2 ^ 24)) _ _ (λ room. on free room) (λ full. over (or_else w.ending (Some Limit)) (λ none. ended_or w.ending Limit none)))
 
 -- the same where it does not matter that the play has ended
 pub by-posts : {S : Type 0} (P : World S → Type 0) (w : World S) (s : Sent) → ((ending : Option Ending) → P (record w { ending = ending }))
-    → (collides (met w.sent) (texts_in s.content) ≡ false → nat_lt (length w.sent) (2 ^ 24) ≡ true → P (numbered w s)) → P (posts w s)
+    → (collides (texts_met w.sent w.marked) (texts_in s.content) ≡ false → nat_lt (length w.sent) (2 ^ 24) ≡ true → P (numbered w s)) → P (posts w s)
 by-posts P w s over on = by-posts-ended P w s (λ ending ended. over ending) on
 
 -- what is kept where a node lets a message go, is kept where it lets many go
@@ -454,6 +499,7 @@ pub live-carries : {S : Type 0} (course : Course S) (P : World S → Type 0) (x 
 live-carries course P x k =
     record {
       event = λ w i h event on up at may p. (k.event w i h event on up at may p.0, has-stepped course w i h (course.step h.node event) x p.1);
+      meet = λ w texts on p. (k.meet w texts on p.0, p.1);
       disk = λ w i h on up at p. (k.disk w i h on up at p.0, p.1);
       hear = λ w i c y a on at has read p. (k.hear w i c y a on at has read p.0, has-hearing w i c a (heard w.view c a) x p.1);
       ask = λ w i c op on at free low brief p. (k.ask w i c op on at free low brief p.0, has-posts x (asked_by w i c op) (from_client w.view c (ask_of c op)) p.1);
@@ -480,11 +526,30 @@ halted_none w on = none_is w.ending on
 pub is-up : {S : Type 0} (w : World S) (h : Host S) → is_up w h ≡ true → IsUp w h
 is-up w h is = let both = and_true h.up (not (is_gone w h.node.id)) is in (both.0, not_true (is_gone w h.node.id) both.1)
 
+-- what may come, may where texts were met
+may_meets : {S : Type 0} (w : World S) (texts : List (List ℕ)) (h : Host S) (event : NodeEvent) → MayCome w h event → MayCome (meets w texts) h event
+may_meets w texts h (Arrive bytes) may = may
+may_meets w texts h Tick may = tt
+may_meets w texts h Deliver may = tt
+may_meets w texts h (Firm count) may = may
+
+-- the text that an event completes is met, and then a host takes it, unless the play has ended
+live-takes_met : {S : Type 0} (course : Course S) (P : World S → Type 0) → KeepsCalm course P → (i : ℕ) (event : NodeEvent) (w : World S) (h : Host S)
+    → w.ending ≡ None → IsUp w h → slice_get w.hosts i ≡ Some h → MayCome w h event → P w → P (takes_met course i event w h)
+live-takes_met {S = S} course P k i event w h on up at may p =
+    let texts : List (List ℕ) = completed_by h.node event in
+    let v : World S = meets w texts in
+    let q : P v = k.meet w texts on p in
+    either_by P (is_halted v) v _ (λ over. q)
+    (λ goes. k.event v i h event (halted_none v goes) up at
+    (record { on = halted_none v goes; come = may_meets w texts h event may; met = all-met w.sent w.marked w.ending texts (halted_none v goes) }) q)
+
 -- a host that is found takes an event
 live-host_takes : {S : Type 0} (course : Course S) (P : World S → Type 0) → KeepsCalm course P → (i : ℕ) (event : NodeEvent) (w : World S) (found : Option (Host S))
     → w.ending ≡ None → slice_get w.hosts i ≡ found → ((h : Host S) → found ≡ Some h → MayCome w h event) → P w → P (host_takes course i event w found)
 live-host_takes course P k i event w None on at may p = p
-live-host_takes course P k i event w (Some h) on at may p = either_by P (not (is_up w h)) w _ (λ not_up. p) (λ up. k.event w i h event on (is-up w h (not_false (is_up w h) up)) at (may h refl) p)
+live-host_takes course P k i event w (Some h) on at may p =
+    either_by P (not (is_up w h)) w _ (λ not_up. p) (λ up. live-takes_met course P k i event w h on (is-up w h (not_false (is_up w h) up)) at (may h refl) p)
 
 -- the node at an index takes an event
 live-node_takes : {S : Type 0} (course : Course S) (P : World S → Type 0) → KeepsCalm course P → (i : ℕ) (event : NodeEvent) (w : World S)
@@ -511,12 +576,19 @@ pub stepped-set : {S : Type 0} (course : Course S) (w : World S) (i : ℕ) (g h 
 unfolding stepped
 stepped-set {S = S} course w i g h o =
     ap (λ (hosts : List (Host S)). sends_all h.node.id (view_of o.node)
+    (meets
     (record w {
       hosts = hosts;
       chosen = chosen_with w.chosen (next_place o.node) o.node.waiting;
       told = w.told ++ (told_drop h.node.id o.dropped ++ flat_map (told_fired h.node.id) o.fired);
     })
+    (flat_map snapshot_in o.fired))
     (leaving o.node.firm o.node.held)) (set_again w.hosts i g (host_after course h o))
+
+-- what is firm completes nothing
+firm_completes : {S : Type 0} (w : World S) (h : Host S) (count : ℕ) → Each (λ text. Among text (texts_met w.sent w.marked)) (completed_by h.node (Firm count))
+unfolding completed_by
+firm_completes w h count = tt
 
 -- a node hears what is firm behind a call
 live-hears_firm : {S : Type 0} (course : Course S) (P : World S → Type 0) → KeepsCalm course P → (i : ℕ) (w : World S) (h : Host S) → w.ending ≡ None → IsUp w h
@@ -526,7 +598,8 @@ live-hears_firm course P k i w h on up at p =
     let g = after_call course h in
     either_by P (nat_lt h.node.firm g.store.firm) _ _
     (λ more. subst P (stepped-set course w i g g (course.step h.node (Firm (g.store.firm - h.node.restored))))
-    (k.event (called course w i h) i g (Firm (g.store.firm - h.node.restored)) on up (set_there w.hosts i h g at) (record { more = ltb-true h.node.firm g.store.firm more; life = refl })
+    (k.event (called course w i h) i g (Firm (g.store.firm - h.node.restored)) on up (set_there w.hosts i h g at)
+    (record { on = on; come = record { more = ltb-true h.node.firm g.store.firm more; life = refl }; met = firm_completes (called course w i h) g (g.store.firm - h.node.restored) })
     (k.disk w i h on up at p)))
     (λ known. k.disk w i h on up at p)
 
@@ -536,7 +609,7 @@ live-host_calls : {S : Type 0} (course : Course S) (P : World S → Type 0) → 
 live-host_calls course P k i w None on at p = p
 live-host_calls course P k i w (Some h) on at p =
     either_by P (not (is_up w h)) w _ (λ not_up. p)
-    (λ up. either P (is_due never h.store) _ w (live-hears_firm course P k i w h on (is-up w h (not_false (is_up w h) up)) at p) p)
+    (λ up. either P (is_due is_installed h.store) _ w (live-hears_firm course P k i w h on (is-up w h (not_false (is_up w h) up)) at p) p)
 
 -- the store at an index does
 pub live-calls_disk : {S : Type 0} (course : Course S) (P : World S → Type 0) → KeepsCalm course P → (i : ℕ) (w : World S) → P w → P (calls_disk course i w)
@@ -549,7 +622,7 @@ live-calls_disk course P k i w p = either_by P (is_halted w) w _ (λ over. p) (�
 live-takes_due : {S : Type 0} (course : Course S) (P : World S → Type 0) → KeepsCalm course P → (i : ℕ) (w : World S) (found : Option (Host S)) → P w → P (takes_due course i w found)
 live-takes_due course P k i w None p = p
 live-takes_due course P k i w (Some h) p =
-    either P (is_due never h.store) _ _ (live-calls_disk course P k i w p) (either P (is_some h.node.waiting) _ w (live-node_takes course P k i Deliver w (λ g at. tt) p) p)
+    either P (is_due is_installed h.store) _ _ (live-calls_disk course P k i w p) (either P (is_some h.node.waiting) _ w (live-node_takes course P k i Deliver w (λ g at. tt) p) p)
 
 -- a node settles once
 pub live-settle_once : {S : Type 0} (course : Course S) (P : World S → Type 0) → KeepsCalm course P → (i : ℕ) (w : World S) → P w → P (settle_once course i w)
@@ -793,6 +866,13 @@ try_may w h Tick may = tt
 try_may w h Deliver may = tt
 try_may w h (Firm count) may = absurd may
 
+try_completes : {S : Type 0} (w : World S) (h : Host S) (event : NodeEvent) → MayTry event → Each (λ text. Among text (texts_met w.sent w.marked)) (completed_by h.node event)
+unfolding completed_by
+try_completes w h (Arrive bytes) may = absurd may
+try_completes w h Tick may = tt
+try_completes w h Deliver may = tt
+try_completes w h (Firm count) may = absurd may
+
 -- a node delivers, or time passes there, or it tells that it is idle
 live-host_tries : {S : Type 0} (course : Course S) (P : World S → Type 0) → KeepsCalm course P → (event : NodeEvent) → MayTry event → (i : ℕ) (w : World S) (found : Option (Host S)) → w.ending ≡ None
     → slice_get w.hosts i ≡ found → P w → P (host_tries course event i w found)
@@ -800,7 +880,7 @@ live-host_tries course P k event may i w None on at p = p
 live-host_tries course P k event may i w (Some h) on at p =
     either_by P (not (is_up w h)) w _ (λ not_up. p)
     (λ up. live-telling_all course P k (stepped course w i h (course.step h.node event)) (told_idle h.node.id (course.step h.node event).fired) (idle-aside h.node.id (course.step h.node event).fired)
-    (k.event w i h event on (is-up w h (not_false (is_up w h) up)) at (try_may w h event may) p))
+    (k.event w i h event on (is-up w h (not_false (is_up w h) up)) at (record { on = on; come = try_may w h event may; met = try_completes w h event may }) p))
 
 live-tries_at : {S : Type 0} (course : Course S) (P : World S → Type 0) → KeepsCalm course P → (event : NodeEvent) → MayTry event → (i : ℕ) (w : World S) → P w → P (tries_at course event i w)
 unfolding tries_at
@@ -819,7 +899,10 @@ drop-beside id None = tt
 drop-beside id (Some why) = (tt, tt)
 
 fired-beside : (id : ℕ) (fired : Fired) → Each IsBeside (told_fired id fired)
+fired-beside id (fires.Installed place) = (tt, tt)
+fired-beside id fires.Spoiled = tt
 fired-beside id (fires.Delivered d) = (tt, tt)
+fired-beside id (fires.Marked snapshot) = tt
 fired-beside id (fires.Adopted s) = (tt, tt)
 fired-beside id fires.Joined = tt
 fired-beside id (fires.Promised p) = (tt, tt)
@@ -946,8 +1029,8 @@ live-crashes course P k image patches i w p =
 
 -- a node goes on, unless what its devices hold is damaged
 live-resumes_from : {S : Type 0} (course : Course S) (P : World S → Type 0) → KeepsCalmLives course P → (i : ℕ) (w : World S) (h : Host S) (damage : Option ℕ) → w.ending ≡ None → IsDown w h
-    → slice_get w.hosts i ≡ Some h → P w → P (resumes_from course i w h (entries_left h) damage)
-live-resumes_from course P k i w h (Some entry) on down at p = p
+    → slice_get w.hosts i ≡ Some h → P w → P (resumes_from course i w h (parts_held h) damage)
+live-resumes_from course P k i w h (Some part) on down at p = p
 live-resumes_from course P k i w h None on down at p = k.resume w i h on down at p
 
 live-host_resumes : {S : Type 0} (course : Course S) (P : World S → Type 0) → KeepsCalmLives course P → (i : ℕ) (w : World S) (found : Option (Host S)) → w.ending ≡ None → slice_get w.hosts i ≡ found → P w
@@ -955,7 +1038,7 @@ live-host_resumes : {S : Type 0} (course : Course S) (P : World S → Type 0) �
 live-host_resumes course P k i w None on at p = p
 live-host_resumes course P k i w (Some h) on at p =
     either_by P (h.up || is_gone w h.node.id) w _ (λ up. p)
-    (λ down. live-resumes_from course P k i w h (damaged group_secret 0 w.view (entries_left h)) on (or_parts h.up (is_gone w h.node.id) down) at p)
+    (λ down. live-resumes_from course P k i w h (damage_of course.meaning group_secret w.view (parts_held h)) on (or_parts h.up (is_gone w h.node.id) down) at p)
 
 live-resumes : {S : Type 0} (course : Course S) (P : World S → Type 0) → KeepsCalmLives course P → (i : ℕ) (w : World S) → P w → P (resumes course i w)
 unfolding resumes

@@ -1,10 +1,11 @@
 -- Whatever a crash leaves of a member's devices, it goes on from a front of the list, and the places of accepted replies are kept.
-use Rattle.std.proofs.Common.{◌≡◌, inl, inr, ℕ, ◌+◌, ◌-◌, ◌^◌, ◌≤◌, ◌==◌, ◌&&◌, ◌||◌, ◌∙◌, Bool, true, false, not, cond, List, [], ◌∷◌, length, take, filter, refl, ap, sym, arith, eqb-true, add-one, length-append, None, Some}
+use Rattle.std.proofs.Common.{◌≡◌, inl, inr, ℕ, max, ◌+◌, ◌≤◌, ◌++◌, ◌==◌, ◌&&◌, ◌||◌, ◌∙◌, Bool, true, false, not, cond, List, [], ◌∷◌, length, take, drop, filter, subst, Option, IfSome, refl, ap, sym, arith, eqb-true, add-one, None, Some}
 use Rattle.std.proofs.lemmas.Bool.{le-leb}
-use Rattle.std.proofs.lemmas.List.{length-take-le}
-use Rattle.std.specs.Prelude.{map, slice_get}
+use Rattle.std.proofs.lemmas.List.{length-take-le, take-take, take-append-le, take-append-drop}
+use Rattle.std.proofs.Math.Seq.{take-append_seam}
+use Rattle.std.specs.Prelude.{map, option_map, slice_get}
 use Rattle.smart_base.specs.Lists.{Each}
-use Rattle.smart_base.specs.Views.{View}
+use Rattle.smart_base.specs.Views.{View, present as present_view}
 use Rattle.smart_base.proofs.ViewFacts.{quorum-honest}
 use Rattle.smart_base.specs.declared.party.Party.TheVariants.{Member}
 use Rattle.smart_statements.specs.Forms.{SignedBy}
@@ -14,31 +15,35 @@ use Rattle.smart_statements.specs.declared.statement.Answer.{Answer}
 use Rattle.smart_messages.specs.declared.message.Message.TheVariants.{Reply}
 use Rattle.smart_service.specs.Services.{Meaning}
 use Rattle.smart_service.specs.declared.replica.Replica.{Replica}
-use Rattle.vote_book.specs.Books.{last_made}
-use Rattle.vote_book.specs.Entries.{FitsEntry}
+use Rattle.vote_book.specs.Books.{HasMade, last_made}
+use Rattle.vote_book.specs.Entries.{FitsEntry, entry_text}
+use Rattle.book_laws.specs.BookCuts.{cut_at, InstallUpTo}
+use Rattle.book_laws.proofs.Places.{last_append}
 use Rattle.vote_book.specs.declared.entry.LogEntry.{LogEntry}
-use Rattle.replica_rules.specs.Replicas.{state}
+use Rattle.replica_rules.specs.Replicas.{state, views_after}
 use Rattle.replica_rules.specs.Seals.{is_verified}
 use Rattle.store_laws.specs.Restored.{Images, restores}
-use Rattle.store_laws.specs.States.{MayLeave}
-use Rattle.member_store.specs.Books.{Leaves}
-use Rattle.world_rules.specs.Crashes.{images_left, is_unclosed, written_book, wrong_images}
+use Rattle.store_laws.specs.States.{StoreState, MayLeave}
+use Rattle.store_laws.specs.Asked.{IsOneOf}
+use Rattle.store_form.specs.declared.checkpoint.Checkpoint.{Checkpoint}
+use Rattle.member_store.specs.Cuts.{IsFrontOf, LeavesFront}
+use Rattle.member_store.proofs.Fronts.{front_count, front_more}
+use Rattle.member_store.proofs.BookFits.{nothing_is_wrong}
+use Rattle.world_rules.specs.Crashes.{bytes_held, images_left, is_unclosed, written_book, wrong_images}
+use Rattle.world_rules.specs.Fronts.{stated_place, checkpoint_place}
 use Rattle.world_rules.specs.declared.crash.Image.{Image}
-use Rattle.member_store.proofs.Crashed.{crash_leaves}
+use Rattle.member_store.proofs.BookCrashed.{crash_leaves_front}
 use Rattle.member_store.proofs.Told.{may_leave}
-use Rattle.member_store.proofs.Whole.{none_left_wrong}
-use Rattle.agreement_laws.specs.Fronts.{IsFront}
-use Rattle.agreement_laws.specs.Statements.{Replied}
+use Rattle.agreement_laws.specs.Statements.{Statement, Replied}
 use Rattle.agreement_laws.specs.Diaries.{HasReached}
-use Rattle.node_rules.specs.Nodes.{Node}
-use Rattle.node_rules.specs.Reopening.{decided_of, damaged, entries_in, reopened}
-use Rattle.node_rules.specs.Steps.{outset}
-use Rattle.node_laws.proofs.Restored.{front_decided}
-use Rattle.node_laws.proofs.Reopened.{reopened_is, count_is}
-use Rattle.node_laws.proofs.Undamaged.{undamaged, read_again}
-use Rattle.world_rules.specs.Secrets.{group_secret, period}
+use Rattle.node_rules.specs.Reopening.{damaged, damaged_behind, damage_of, entries_in, reopened, reopened_from}
+use Rattle.node_rules.specs.Steps.{Outset}
+use Rattle.node_laws.specs.Restored.{IsSoundBook}
+use Rattle.node_laws.specs.Restoring.{outset_behind}
+use Rattle.node_laws.proofs.Cuts.{read_cut, undamaged_cut}
+use Rattle.world_rules.specs.Secrets.{group_secret}
 use Rattle.world_rules.specs.Premises.{is_among}
-use Rattle.world_rules.specs.Worlds.{Host, World, is_gone, life_crashed, outset_of}
+use Rattle.world_rules.specs.Worlds.{Host, World, is_gone, with_front, written, life_crashed, parts_of}
 use Rattle.world_laws.specs.Promises.{restored_replica, has_place, MayBeLeft, IsKept, Recovers}
 use Rattle.world_rules.specs.declared.message.Content.{Content}
 use Rattle.world_rules.specs.declared.message.Content.TheVariants as contents
@@ -49,114 +54,204 @@ use Rattle.world_laws.specs.Sending.{has_replied, is_reply_of, is_of, is_for, is
 use Rattle.world_laws.proofs.Lists.{each_get}
 use Rattle.world_laws.proofs.Keeps.{HasMessage}
 use Rattle.world_laws.proofs.NoClash.{IsMet}
-use Rattle.world_laws.proofs.Lives.{left-restored, left_diary, texts, texts-take, book_now, Lasts, stopped_firm, written_texts}
-use Rattle.world_laws.proofs.Fitting.{FitHost, spelled-life}
+use Rattle.world_laws.proofs.Lives.{EachLife, book_left, take_whole, each_drop, Running, Stopped, Lasts, Crashed, crashed, begins_both, front_whole, stopped_long, left_texts, left_upto}
+use Rattle.world_laws.proofs.Ahead.{one_of, written_fits}
+use Rattle.world_laws.proofs.Snapshots.{IsSnapshotAt, AreRestorable, snapshot_place, snapshot_replica}
+use Rattle.world_laws.proofs.ChosenLives.{left_right, outset_left, own_left}
+use Rattle.world_laws.proofs.Reopens.{GoesBehind, behind_replica}
+use Rattle.world_laws.proofs.Fitting.{spelled-life}
 use Rattle.world_laws.proofs.Grounded.{EntryMet, HostMet}
-use Rattle.world_laws.proofs.Chosen.{BookRight, HostRight, ChosenRight, book-front, front_right, own_right}
+use Rattle.world_laws.proofs.Chosen.{BookRight, HostRight, ChosenRight, book-along, front_right}
 use Rattle.world_laws.proofs.ChosenKept.{host-right, host-fit, diary-few}
 use Rattle.world_laws.proofs.Witnessing.{ShowsOwn, few_faulty}
 use Rattle.world_laws.proofs.Replied.{reply_there}
-use Rattle.agreement_laws.proofs.Lists.{each_take, either}
+use Rattle.agreement_laws.proofs.Lists.{each_take, each_append, either}
 use Rattle.smart_base.proofs.SameLists.{and_true}
-use Rattle.replica_rules.proofs.Places.{state_place}
+use Rattle.replica_rules.proofs.Places.{state_place, state_views}
 
 -- ---- what a crash leaves
 
--- the entries that bytes which a crash leaves restore: they are a book from which the member may go on, begin with its diary, and are the diary that the crash
--- makes
-record LeftBook {S : Type 0} (w : World S) (h : Host S) (left : Images) : Type 0 where
-  book : List LogEntry
-  restored : (restores left).entries ≡ texts book
-  right : BookRight w.sent w.view w.chosen book
-  met : Each (EntryMet (IsMet w.sent)) book
-  fits : Each FitsEntry book
-  diary : texts h.life.diary ≡ take (length h.life.diary) (texts book)
-  made : (restores left).entries ≡ texts (life_crashed h left).diary
+-- A front of one book that bytes which a crash leaves restore: it begins with the member's diary, and the member may go on from it.
+record LeftBook {S : Type 0} (m : Meaning S) (w : World S) (h : Host S) (left : Images) : Type 0 where
+  count : ℕ
+  front : IsFrontOf (restores left) (book_left h) count
+  begins : take (length h.life.diary) (book_left h) ≡ h.life.diary
+  least : length h.life.diary ≤ count
+  asked : IfSome (restores left).present (λ (x : Checkpoint). IsSnapshotAt m w.view w.chosen x.snapshot)
+  right : BookRight w.sent w.view w.chosen (take count (book_left h))
+  met : Each (EntryMet (IsMet w.sent)) (take count (book_left h))
+  fits : Each FitsEntry (take count (book_left h))
 
--- what holds of the books of a host, holds of the one of which a crash leaves the first entries
-of_written : {S : Type 0} (P : List LogEntry → Type 0) (h : Host S) → P h.node.entries → P h.life.diary → P h.life.aside → P (written_book h.store (book_now h) h.life.aside)
-of_written P h own diary aside =
-    either P (is_unclosed h.store) h.life.aside (book_now h) aside (either P h.up h.node.entries h.life.diary own diary)
+-- a checkpoint of a snapshot that was asked for
+is_asked : {S : Type 0} (m : Meaning S) (view : View) (chosen : List Batch) (all : List (List ℕ)) (present : Option Checkpoint) → Each (IsSnapshotAt m view chosen) all
+    → IfSome present (λ (x : Checkpoint). IsOneOf all x.snapshot) → IfSome present (λ (x : Checkpoint). IsSnapshotAt m view chosen x.snapshot)
+is_asked m view chosen all None each is = tt
+is_asked m view chosen all (Some x) each is = one_of (IsSnapshotAt m view chosen) all x.snapshot each is
 
--- a diary is firm, and stands at the front of the book of this life
-diary_firm : {S : Type 0} (h : Host S) → length h.life.diary ≤ 2 ^ 64 - 1 → Lasts h → (length h.life.diary ≤ h.store.firm) × (h.life.diary ≡ take (length h.life.diary) (book_now h))
-diary_firm {S = S} h few is = by h.up refl
-  where
-    by : (up : Bool) → h.up ≡ up → (length h.life.diary ≤ h.store.firm) × (h.life.diary ≡ take (length h.life.diary) (cond up h.node.entries h.life.diary))
-    by true up =
-        let long : length h.life.diary ≡ h.node.firm = ap (λ (es : List LogEntry). length es) (is.up up) ∙ length-take-le h.node.firm h.node.entries is.low in
-        let heard = is.heard up in
-        (omega (arith, long, heard), is.up up ∙ ap (λ (k : ℕ). take k h.node.entries) (sym long))
-    by false down = let firm = stopped_firm h (is.down down) few in (omega (arith, firm), whole h.life.diary)
-      where
-        whole : (es : List LogEntry) → es ≡ take (length es) es
-        whole [] = refl
-        whole (e ∷ es) = ap (λ (xs : List LogEntry). e ∷ xs) (whole es)
+-- the first entries of a book, or of one that a diary begins
+front_part : (P : List LogEntry → Type 0) (count : ℕ) (unclosed : Bool) (aside d rest : List LogEntry) → ((es : List LogEntry) → P es → P (take count es)) → (unclosed ≡ false → count ≤ length d) → P aside → P d
+    → P (take count (cond unclosed aside (d ++ rest)))
+front_part P count true aside d rest fronts low other own = fronts aside other
+front_part P count false aside d rest fronts low other own = subst P (sym (take-append-le count d rest (low refl))) (fronts d own)
 
-left_book : {S : Type 0} (m : Meaning S) (w : World S) (i : ℕ) (h : Host S) (left : Images) → slice_get w.hosts i ≡ Some h → MayLeave h.store.devices left → ChosenRight m w → LeftBook w h left
-left_book {S = S} m w i h left at may r =
-    let right : HostRight w.sent m w.view w.chosen h = host-right m w i h at r in
-    let fit : FitHost m h = host-fit m w i h at r in
-    let met : HostMet (IsMet w.sent) h = each_get (HostMet (IsMet w.sent)) w.hosts i h r.0.0.hosts at in
-    let few = diary-few m w i h at r in
-    let leaves : Leaves h.store (texts (book_now h)) (texts h.life.aside) left = crash_leaves h.store (texts (book_now h)) (texts h.life.aside) right.lasts.holds left may in
-    let all : List LogEntry = written_book h.store (book_now h) h.life.aside in
-    let restored : List (List ℕ) = (restores left).entries in
-    let front : restored ≡ texts (take (length restored) all) =
-    leaves.begins ∙ (ap (λ (es : List (List ℕ)). take (length restored) es) (sym (written_texts h.store (book_now h) h.life.aside)) ∙ sym (texts-take (length restored) all)) in
-    let firm = diary_firm h (omega (arith, few)) right.lasts in
-    let n : ℕ = length h.life.diary in
-    let begins : texts h.life.diary ≡ take n restored = ap texts firm.1 ∙ (texts-take n (book_now h) ∙ sym (leaves.same n firm.0)) in
-    record {
-      book = take (length restored) all;
-      restored = front;
-      right = front_right w.sent w.view w.chosen (length restored) all
-          (of_written (λ (es : List LogEntry). BookRight w.sent w.view w.chosen es) h (own_right w.sent m w.view w.chosen h right) right.diary right.aside);
-      met = each_take (EntryMet (IsMet w.sent)) (length restored) all (of_written (λ (es : List LogEntry). Each (EntryMet (IsMet w.sent)) es) h met.node.entries met.life.diary met.life.aside);
-      fits = each_take FitsEntry (length restored) all
-          (of_written (λ (es : List LogEntry). Each FitsEntry es) h fit.node.book (spelled-life h.life fit.life).diary (spelled-life h.life fit.life).aside);
-      diary = begins ∙ ap (λ (es : List (List ℕ)). take n es) front;
-      made = sym (left_diary h left right.lasts leaves.begins begins);
-    }
+module _ {S : Type 0} (m : Meaning S) (w : World S) (i : ℕ) (h : Host S) (left : Images) (at : slice_get w.hosts i ≡ Some h) (may : MayLeave h.store.devices left) (r : ChosenRight m w) where
+  abbrev right_host : HostRight w.sent m w.view w.chosen h
+  right_host = host-right m w i h at r
+
+  abbrev life_fits : EachLife FitsEntry h.life
+  life_fits = spelled-life h.life (host-fit m w i h at r).life
+
+  abbrev host_met : HostMet (IsMet w.sent) h
+  host_met = each_get (HostMet (IsMet w.sent)) w.hosts i h r.0.0.hosts at
+
+  -- where its node runs
+  left_running : h.up ≡ true → LeftBook m w h left
+  left_running up =
+      let is : Lasts right_host.all right_host.past h = right_host.lasts in
+      let run : Running right_host.all right_host.past h = is.up up in
+      let c : Crashed right_host.all right_host.past h left = crashed right_host.all right_host.past h left may run in
+      let long = run.long in
+      let heard = run.heard in
+      let firm = c.leaves.firm in
+      let book : BookRight w.sent w.view w.chosen (book_left h) = left_right w.sent m w.view w.chosen h up right_host in
+      record {
+        count = c.leaves.count;
+        front = c.leaves.front;
+        begins = begins_both h.life.diary (drop h.node.firm h.node.entries) (book_left h) (h.store.firm + right_host.past) (omega (arith, long, heard)) c.leaves.same;
+        least = omega (arith, long, heard, firm);
+        asked = is_asked m w.view w.chosen right_host.all (restores left).present right_host.snapshots c.leaves.checkpoint;
+        right = front_right w.sent w.view w.chosen c.leaves.count (book_left h) book;
+        met = each_take (EntryMet (IsMet w.sent)) c.leaves.count (book_left h)
+            (either (λ (es : List LogEntry). Each (EntryMet (IsMet w.sent)) es) (is_unclosed h.store) h.life.aside (written h) host_met.life.aside
+            (each_append (EntryMet (IsMet w.sent)) h.life.diary (drop h.node.firm h.node.entries) host_met.life.diary (each_drop (EntryMet (IsMet w.sent)) h.node.firm h.node.entries host_met.node.entries)));
+        fits = each_take FitsEntry c.leaves.count (book_left h)
+            (either (λ (es : List LogEntry). Each FitsEntry es) (is_unclosed h.store) h.life.aside (written h) life_fits.aside (written_fits h life_fits.diary (host-fit m w i h at r).node.book));
+      }
+
+  -- where its member has crashed already
+  left_stopped : h.up ≡ false → LeftBook m w h left
+  left_stopped down =
+      let is : Lasts right_host.all right_host.past h = right_host.lasts in
+      let s : Stopped right_host.all right_host.past h = is.down down in
+      let d : List LogEntry = h.life.diary in
+      let rest : List LogEntry = drop h.node.firm h.node.entries in
+      let l : LeavesFront right_host.all h.store right_host.past d h.life.aside left = crash_leaves_front right_host.all h.store right_host.past (checkpoint_place (restores s.left).present) 0 d h.life.aside (s.holds 0) left may in
+      let few = diary-few m w i h at r in
+      let long : h.store.firm + right_host.past ≡ length d = stopped_long right_host.all right_host.past h s (omega (arith, few)) in
+      let firm = l.firm in
+      let low : is_unclosed h.store ≡ false → l.count ≤ length d = λ calm. subst (λ (b : Bool). l.count ≤ length (cond b h.life.aside d)) calm l.front.few in
+      record {
+        count = l.count;
+        front = of_longer (is_unclosed h.store) l.count l.front;
+        begins = begins_longer (is_unclosed h.store) (ap (λ (k : ℕ). take k (written_book h.store d h.life.aside)) (sym long) ∙ (l.same ∙ (ap (λ (k : ℕ). take k d) long ∙ take_whole d)));
+        least = omega (arith, long, firm);
+        asked = is_asked m w.view w.chosen right_host.all (restores left).present right_host.snapshots l.checkpoint;
+        right = front_part (λ (es : List LogEntry). BookRight w.sent w.view w.chosen es) l.count (is_unclosed h.store) h.life.aside d rest (λ es b. front_right w.sent w.view w.chosen l.count es b) low
+            right_host.aside right_host.diary;
+        met = front_part (λ (es : List LogEntry). Each (EntryMet (IsMet w.sent)) es) l.count (is_unclosed h.store) h.life.aside d rest (λ es each. each_take (EntryMet (IsMet w.sent)) l.count es each) low
+            host_met.life.aside host_met.life.diary;
+        fits = front_part (λ (es : List LogEntry). Each FitsEntry es) l.count (is_unclosed h.store) h.life.aside d rest (λ es each. each_take FitsEntry l.count es each) low life_fits.aside life_fits.diary;
+      }
+    where
+      of_longer : (b : Bool) (count : ℕ) → IsFrontOf (restores left) (cond b h.life.aside h.life.diary) count → IsFrontOf (restores left) (cond b h.life.aside (written h)) count
+      of_longer true count f = f
+      of_longer false count f = front_more (restores left) h.life.diary (drop h.node.firm h.node.entries) count f
+
+      begins_longer : (b : Bool) → take (length h.life.diary) (cond b h.life.aside h.life.diary) ≡ h.life.diary → take (length h.life.diary) (cond b h.life.aside (written h)) ≡ h.life.diary
+      begins_longer true is = is
+      begins_longer false is = take-append_seam h.life.diary (drop h.node.firm h.node.entries)
+
+  left_book : LeftBook m w h left
+  left_book = by h.up refl
+    where
+      by : (up : Bool) → h.up ≡ up → LeftBook m w h left
+      by true up = left_running up
+      by false down = left_stopped down
+
+-- the diary that the crash makes is this front
+left_made_diary : {S : Type 0} (m : Meaning S) (w : World S) (h : Host S) (left : Images) → (b : LeftBook m w h left) → (life_crashed h left).diary ≡ take b.count (book_left h)
+left_made_diary m w h left b =
+    ap (λ (k : ℕ). with_front h.life.diary k (book_left h)) (front_count (restores left) (book_left h) b.count b.front) ∙ front_whole h.life.diary (book_left h) b.count b.least b.begins
+
+-- ---- what is restored is not damaged
+
+parts_undamaged : {S : Type 0} (m : Meaning S) (secret : List ℕ) (stated : List Statement) (view : View) (chosen : List Batch) → AreRestorable m view chosen → (present : Option Checkpoint) (entries : List (List ℕ)) (book : List LogEntry)
+    → IsSoundBook secret stated view book → InstallUpTo (checkpoint_place present) book → Each FitsEntry book → IfSome present (λ (x : Checkpoint). IsSnapshotAt m view chosen x.snapshot) → entries ≡ map entry_text (cut_at (checkpoint_place present) book)
+    → damage_of m secret view (record { snapshot = option_map (λ x. x.snapshot) present; entries = entries }) ≡ None
+unfolding damage_of views_after
+parts_undamaged m secret stated view chosen a None entries book sound upto fits asked is =
+    ap (λ (es : List (List ℕ)). damaged secret 0 view es) is ∙ undamaged_cut secret stated view 0 book sound upto fits
+parts_undamaged {S = S} m secret stated view chosen a (Some x) entries book sound upto fits asked is =
+    let chosen_front : List Batch = take asked.place chosen in
+    let at : stated_place x.snapshot ≡ asked.place = snapshot_place m view chosen x.snapshot a.low asked in
+    let place : (state m view chosen_front).place ≡ stated_place x.snapshot = state_place m view chosen_front ∙ (length-take-le asked.place chosen asked.within ∙ sym at) in
+    ap (λ (o : Option (Replica S)). damaged_behind secret entries o) (snapshot_replica m a.service view chosen x.snapshot a.viewed a.begins a.low a.of asked)
+    ∙ (ap (λ (vs : List View). damaged secret (state m view chosen_front).place (present_view vs) entries) (state_views m view chosen_front)
+    ∙ (ap (λ (k : ℕ). damaged secret k view entries) place
+    ∙ (ap (λ (es : List (List ℕ)). damaged secret (stated_place x.snapshot) view es) is ∙ undamaged_cut secret stated view (stated_place x.snapshot) book sound upto fits)))
 
 -- ---- the replica that goes on
 
-replica_is : {S : Type 0} (m : Meaning S) (secret : List ℕ) (id : ℕ) (view : View) (period : ℕ) (es : List LogEntry) → (reopened m (outset m secret id view period) es).replica ≡ state m view (decided_of 0 es)
-unfolding reopened
-replica_is m secret id view period [] = refl
-replica_is {S = S} m secret id view period (e ∷ es) = ap (λ (n : Node S). n.replica) (reopened_is m (outset m secret id view period) e es)
+-- the member goes on from that front
+left_goes : {S : Type 0} (m : Meaning S) (w : World S) (h : Host S) (left : Images) → ChosenRight m w → (b : LeftBook m w h left)
+    → GoesBehind group_secret (stated w.sent) w.view (checkpoint_place (restores left).present) w.chosen (take b.count (book_left h))
+left_goes m w h left r b = record { sound = b.right.sound; made = b.front.made; upto = b.front.upto; along = book-along m w (take b.count (book_left h)) r b.met b.right }
 
-left_replica : {S : Type 0} (m : Meaning S) (w : World S) (h : Host S) (left : Images) → (b : LeftBook w h left) → restored_replica m w.view h left ≡ state m w.view (decided_of 0 b.book)
-left_replica m w h left b =
-    ap (λ (es : List LogEntry). (reopened m (outset_of m w.view h.node.id) es).replica) (ap entries_in b.restored ∙ read_again b.book b.fits) ∙ replica_is m group_secret h.node.id w.view period b.book
+left_replica : {S : Type 0} (m : Meaning S) (w : World S) (h : Host S) (left : Images) → AreRestorable m w.view w.chosen → ChosenRight m w → (b : LeftBook m w h left)
+    → restored_replica m w.view w.period h left ≡ state m w.view (take (last_made (take b.count (book_left h))) w.chosen)
+unfolding reopened_from
+left_replica {S = S} m w h left a r b =
+    let book : List LogEntry = take b.count (book_left h) in
+    let present : Option Checkpoint = (restores left).present in
+    let place : ℕ = checkpoint_place present in
+    ap (λ (o : Outset S). (reopened m o (entries_in (restores left).entries)).replica)
+    (outset_left m a.service w.view w.period w.chosen h.node.id a.viewed a.begins a.low a.of present b.asked)
+    ∙ (ap (λ (es : List LogEntry). (reopened m (outset_behind m group_secret h.node.id w.view w.period place w.chosen (own_left present)) es).replica) (ap entries_in b.front.entries ∙ read_cut place book b.fits)
+    ∙ behind_replica m group_secret h.node.id (stated w.sent) w.view w.period place w.chosen (own_left present) book (left_goes m w h left r b))
 
-left_place : {S : Type 0} (m : Meaning S) (w : World S) (h : Host S) (left : Images) → (b : LeftBook w h left) → (restored_replica m w.view h left).place ≡ length (decided_of 0 b.book)
-left_place {S = S} m w h left b = ap (λ (r : Replica S). r.place) (left_replica m w h left b) ∙ state_place m w.view (decided_of 0 b.book)
+left_place : {S : Type 0} (m : Meaning S) (w : World S) (h : Host S) (left : Images) → AreRestorable m w.view w.chosen → ChosenRight m w → (b : LeftBook m w h left)
+    → (restored_replica m w.view w.period h left).place ≡ last_made (take b.count (book_left h))
+left_place {S = S} m w h left a r b =
+    let last : ℕ = last_made (take b.count (book_left h)) in
+    ap (λ (x : Replica S). x.place) (left_replica m w h left a r b) ∙ (state_place m w.view (take last w.chosen) ∙ length-take-le last w.chosen b.right.within)
 
 -- it is the state of a front of the list
-left_front : {S : Type 0} (m : Meaning S) (w : World S) (h : Host S) (left : Images) → ChosenRight m w → (b : LeftBook w h left)
-    → restored_replica m w.view h left ≡ state m w.view (take (restored_replica m w.view h left).place w.chosen)
-left_front {S = S} m w h left r b =
-    let ds : List Batch = decided_of 0 b.book in
-    let own : take (length ds) w.chosen ≡ ds = book-front m w b.book r b.met b.right in
-    left_replica m w h left b
-    ∙ (ap (λ (bs : List Batch). state m w.view bs) (sym own) ∙ ap (λ (k : ℕ). state m w.view (take k w.chosen)) (sym (left_place m w h left b)))
+left_front : {S : Type 0} (m : Meaning S) (w : World S) (h : Host S) (left : Images) → AreRestorable m w.view w.chosen → ChosenRight m w → (b : LeftBook m w h left)
+    → restored_replica m w.view w.period h left ≡ state m w.view (take (restored_replica m w.view w.period h left).place w.chosen)
+left_front {S = S} m w h left a r b = left_replica m w h left a r b ∙ ap (λ (k : ℕ). state m w.view (take k w.chosen)) (sym (left_place m w h left a r b))
 
-recovers : {S : Type 0} (m : Meaning S) (w : World S) (i : ℕ) (h : Host S) → slice_get w.hosts i ≡ Some h → ChosenRight m w → Recovers m w h
-recovers {S = S} m w i h at r =
-    let b : (left : Images) → MayLeave h.store.devices left → LeftBook w h left = λ left may. left_book m w i h left at may r in
-    let none_wrong : (image : Image) → wrong_images h.store (images_left image [] h.store) ≡ None =
-    λ image. none_left_wrong h.store (texts (book_now h)) (texts h.life.aside) (host-right m w i h at r).lasts.holds image in
+-- no crash line without patches ends a play
+none_wrong : {S : Type 0} (all : List (List ℕ)) (past : ℕ) (h : Host S) → Lasts all past h → (image : Image) → wrong_images h.store (images_left image [] h.store) ≡ None
+none_wrong all past h is image = by h.up refl
+  where
+    by : (up : Bool) → h.up ≡ up → wrong_images h.store (images_left image [] h.store) ≡ None
+    by true up = nothing_is_wrong all h.store past (max h.node.opening h.switching) h.switching (written h) h.life.aside (is.up up).holds image
+    by false down = nothing_is_wrong all h.store past (checkpoint_place (restores (is.down down).left).present) 0 h.life.diary h.life.aside ((is.down down).holds 0) image
+
+recovers : {S : Type 0} (m : Meaning S) (w : World S) (i : ℕ) (h : Host S) → slice_get w.hosts i ≡ Some h → AreRestorable m w.view w.chosen → ChosenRight m w → Recovers m w h
+recovers {S = S} m w i h at a r =
+    let right : HostRight w.sent m w.view w.chosen h = host-right m w i h at r in
+    let b : (left : Images) → MayLeave h.store.devices left → LeftBook m w h left = λ left may. left_book m w i h left at may r in
     record {
-      possible = none_wrong;
-      leaves = λ image. may_leave h.store (images_left image [] h.store) (none_wrong image);
-      diary = λ left may. (b left may).made;
-      undamaged = λ left may. ap (λ (es : List (List ℕ)). damaged group_secret 0 w.view es) (b left may).restored
-          ∙ undamaged group_secret (stated w.sent) w.view (b left may).book (b left may).right.sound (b left may).fits;
-      restarts = λ down. ap (λ (es : List (List ℕ)). damaged group_secret 0 w.view es) (left-restored h ((host-right m w i h at r).lasts.down down))
-          ∙ undamaged group_secret (stated w.sent) w.view h.life.diary (host-right m w i h at r).diary.sound (spelled-life h.life (host-fit m w i h at r).life).diary;
-      within = λ left may. let place = left_place m w h left (b left may) in let most = (b left may).right.within in omega (arith, place, most);
-      right = λ left may. left_front m w h left r (b left may);
+      possible = none_wrong right.all right.past h right.lasts;
+      leaves = λ image. may_leave h.store (images_left image [] h.store) (none_wrong right.all right.past h right.lasts image);
+      diary = λ left may. (b left may).front.entries
+          ∙ ap (λ (es : List LogEntry). map entry_text (cut_at (checkpoint_place (restores left).present) es)) (sym (left_made_diary m w h left (b left may)));
+      made = λ left may past.
+          subst (λ (es : List LogEntry). HasMade es (checkpoint_place (restores left).present)) (sym (left_made_diary m w h left (b left may))) ((b left may).front.made past);
+      undamaged = λ left may.
+          parts_undamaged m group_secret (stated w.sent) w.view w.chosen a (restores left).present (restores left).entries (take (b left may).count (book_left h)) (b left may).right.sound (b left may).front.upto (b left may).fits
+          (b left may).asked
+          (b left may).front.entries;
+      restarts = λ down.
+          let s : Stopped right.all right.past h = right.lasts.down down in
+          ap (λ (t : StoreState). damage_of m group_secret w.view (parts_of (restores (bytes_held t)))) s.opened
+          ∙ parts_undamaged m group_secret (stated w.sent) w.view w.chosen a (restores s.left).present (restores s.left).entries h.life.diary right.diary.sound (left_upto right.all right.past h s)
+          (spelled-life h.life (host-fit m w i h at r).life).diary
+          (is_asked m w.view w.chosen right.all (restores s.left).present right.snapshots s.asked) (left_texts right.all right.past h s);
+      within = λ left may. let place = left_place m w h left a r (b left may) in let most = (b left may).right.within in omega (arith, place, most);
+      reaches = λ left may. left_place m w h left a r (b left may) ∙ ap (λ (es : List LogEntry). last_made es) (sym (left_made_diary m w h left (b left may)));
+      right = λ left may. left_front m w h left a r (b left may);
     }
 
 -- so is each host
@@ -167,27 +262,25 @@ each_at P (x ∷ xs) all = (all 0 x refl, each_at P xs (λ i y at. all (i + 1) y
     later : (i : ℕ) (y : _) → slice_get xs i ≡ Some y → slice_get (x ∷ xs) (i + 1) ≡ Some y
     later i y at = rw add-one at
 
-pub all_recover : {S : Type 0} (m : Meaning S) (w : World S) → ChosenRight m w → Each (Recovers m w) w.hosts
-all_recover {S = S} m w r = each_at (Recovers m w) w.hosts (λ i h at. recovers m w i h at r)
+pub all_recover : {S : Type 0} (m : Meaning S) (w : World S) → AreRestorable m w.view w.chosen → ChosenRight m w → Each (Recovers m w) w.hosts
+all_recover {S = S} m w a r = each_at (Recovers m w) w.hosts (λ i h at. recovers m w i h at a r)
 
 -- ---- places that are kept
 
 -- a member whose diary has reached a place restores it or a later one
-reached_kept : {S : Type 0} (m : Meaning S) (w : World S) (i : ℕ) (h : Host S) (left : Images) (place : ℕ) → slice_get w.hosts i ≡ Some h → MayLeave h.store.devices left → ChosenRight m w → HasReached h.life.diary place
-    → place ≤ (restored_replica m w.view h left).place
-reached_kept {S = S} m w i h left place at may r reached =
-    let b : LeftBook w h left = left_book m w i h left at may r in
+reached_kept : {S : Type 0} (m : Meaning S) (w : World S) (i : ℕ) (h : Host S) (left : Images) (place : ℕ) → slice_get w.hosts i ≡ Some h → MayLeave h.store.devices left → AreRestorable m w.view w.chosen → ChosenRight m w
+    → HasReached h.life.diary place → place ≤ (restored_replica m w.view w.period h left).place
+reached_kept {S = S} m w i h left place at may a r reached =
+    let b : LeftBook m w h left = left_book m w i h left at may r in
     let right : HostRight w.sent m w.view w.chosen h = host-right m w i h at r in
     let d : List LogEntry = h.life.diary in
-    let made : last_made d ≡ length (decided_of 0 d) = count_is m group_secret (stated w.sent) w.view d right.diary.sound in
-    let fits = (spelled-life h.life (host-fit m w i h at r).life).diary in
-    let front : d ≡ take (length d) b.book =
-    sym (read_again d fits) ∙ (ap entries_in (b.diary ∙ sym (texts-take (length d) b.book)) ∙ read_again (take (length d) b.book) (each_take FitsEntry (length d) b.book b.fits)) in
-    let f : IsFront (decided_of 0 (take (length d) b.book)) (decided_of 0 b.book) = front_decided 0 b.book (length d) in
-    let long : length (decided_of 0 b.book) ≡ length (decided_of 0 (take (length d) b.book)) + length f.rest = ap (λ (bs : List Batch). length bs) f.is ∙ length-append (decided_of 0 (take (length d) b.book)) f.rest in
-    let own : length (decided_of 0 d) ≡ length (decided_of 0 (take (length d) b.book)) = ap (λ (es : List LogEntry). length (decided_of 0 es)) front in
-    let at_place = left_place m w h left b in
-    omega (arith, reached, made, own, long, at_place)
+    let book : List LogEntry = take b.count (book_left h) in
+    let front : take (length d) book ≡ d = take-take (length d) b.count (book_left h) b.least ∙ b.begins in
+    let more : last_made book ≡ max (last_made (take (length d) book)) (last_made (drop (length d) book)) =
+    ap (λ (es : List LogEntry). last_made es) (sym (take-append-drop (length d) book)) ∙ last_append (take (length d) book) (drop (length d) book) in
+    let own : last_made (take (length d) book) ≡ last_made d = ap (λ (es : List LogEntry). last_made es) front in
+    let at_place = left_place m w h left a r b in
+    omega (arith, reached, more, own, at_place)
 
 -- a member has given the reply that was accepted
 record Given (sent : List Sent) (a : Acceptance) (member : ℕ) : Type 0 where
@@ -226,9 +319,9 @@ abbrev honest_replied : {S : Type 0} → World S → Acceptance → ℕ → Bool
 honest_replied w a member = has_replied w.faulty w.sent a member && not (is_among w.faulty member)
 
 -- restores the place, whatever is left of its devices
-honest_kept : {S : Type 0} (m : Meaning S) (w : World S) (a : Acceptance) (left : ℕ → Images) (i : ℕ) (h : Host S) → slice_get w.hosts i ≡ Some h → MayBeLeft w left → ChosenRight m w
+honest_kept : {S : Type 0} (m : Meaning S) (w : World S) (a : Acceptance) (left : ℕ → Images) (i : ℕ) (h : Host S) → slice_get w.hosts i ≡ Some h → MayBeLeft w left → AreRestorable m w.view w.chosen → ChosenRight m w
     → honest_replied w a h.node.id ≡ true → has_place m w left a.place h ≡ true
-honest_kept {S = S} m w a left i h at may r is =
+honest_kept {S = S} m w a left i h at may service r is =
     let both = and_true (has_replied w.faulty w.sent a h.node.id) (not (is_among w.faulty h.node.id)) is in
     let correct : is_among w.faulty h.node.id ≡ false = not_true (is_among w.faulty h.node.id) both.1 in
     let g : Given w.sent a h.node.id = given_by w.faulty w.sent a h.node.id both.0 in
@@ -236,9 +329,9 @@ honest_kept {S = S} m w a left i h at may r is =
     each_get (ShowsOwn w.faulty (Replied g.reply)) w.hosts i h (r.1.shown (Replied g.reply) (reply_there w.sent g.reply g.there g.tagged)) at in
     let reached : HasReached h.life.diary g.reply.statement.place = shows (ap (λ (k : ℕ). Member k) g.signer) correct in
     let here : MayLeave h.store.devices (left h.node.id) = each_get (λ (x : Host S). is_gone w x.node.id ≡ false → MayLeave x.store.devices (left x.node.id)) w.hosts i h may at correct in
-    let least = reached_kept m w i h (left h.node.id) g.reply.statement.place at here r reached in
+    let least = reached_kept m w i h (left h.node.id) g.reply.statement.place at here service r reached in
     let place = g.place in
-    rw (both.1, le-leb a.place (restored_replica m w.view h (left h.node.id)).place (omega (arith, least, place))) refl
+    rw (both.1, le-leb a.place (restored_replica m w.view w.period h (left h.node.id)).place (omega (arith, least, place))) refl
   where
     not_true : (b : Bool) → not b ≡ true → b ≡ false
     not_true true is = absurd (cc)
@@ -272,8 +365,8 @@ hosts_pass {S = S} p q (h ∷ hs) each = by (p h.node.id) (q h) each.0 (filter p
     by false false more ps qs le = le
 
 -- a place at which a quorum has replied is kept
-pub replied_kept : {S : Type 0} (m : Meaning S) (w : World S) (a : Acceptance) → ChosenRight m w → QuorumReplied w.view w.faulty w.sent a → IsKept m w a.place
-replied_kept {S = S} m w a r replied =
+pub replied_kept : {S : Type 0} (m : Meaning S) (w : World S) (a : Acceptance) → AreRestorable m w.view w.chosen → ChosenRight m w → QuorumReplied w.view w.faulty w.sent a → IsKept m w a.place
+replied_kept {S = S} m w a service r replied =
     let p : ℕ → Bool = has_replied w.faulty w.sent a in
     let q : ℕ → Bool = is_among w.faulty in
     let few = (few_faulty w.view w.faulty r.1.viewed r.1.few).few in
@@ -281,7 +374,7 @@ replied_kept {S = S} m w a r replied =
     let but = pass_but p q w.view.members in
     record {
       enough = λ left may.
-          let pass = hosts_pass (honest_replied w a) (has_place m w left a.place) w.hosts (each_at (λ (h : Host S). honest_replied w a h.node.id ≡ true → has_place m w left a.place h ≡ true) w.hosts (λ i h at. honest_kept m w a left i h at may r)) in
+          let pass = hosts_pass (honest_replied w a) (has_place m w left a.place) w.hosts (each_at (λ (h : Host S). honest_replied w a h.node.id ≡ true → has_place m w left a.place h ≡ true) w.hosts (λ i h at. honest_kept m w a left i h at may service r)) in
           let own : length (filter (honest_replied w a) (map (λ h. h.node.id) w.hosts)) ≡ length (filter (honest_replied w a) w.view.members) =
           ap (λ (ms : List ℕ). length (filter (honest_replied w a) ms)) r.1.ids in
           omega (arith, pass, own, but, few, more, replied);

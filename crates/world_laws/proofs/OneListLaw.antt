@@ -1,14 +1,17 @@
 -- One list holds throughout a script.
-use Rattle.std.proofs.Common.{◌≡◌, ℕ, false, true, List, [], ◌∷◌, take, refl, sym, subst, Option, Some, None}
+use Rattle.std.proofs.Common.{◌≡◌, ℕ, false, List, [], ◌∷◌, take, refl, sym, subst, Option, Some, None}
 use Rattle.std.specs.Prelude.{map}
 use Rattle.smart_base.specs.declared.party.Party.TheVariants.{Member}
 use Rattle.smart_base.specs.Lists.{Each}
-use Rattle.smart_base.specs.Views.{View, is_view}
 use Rattle.smart_statements.specs.Forms.{SignedBy}
 use Rattle.smart_statements.specs.Batches.{Batch}
 use Rattle.smart_statements.specs.declared.statement.Answer.{Answer}
 use Rattle.smart_messages.specs.Messages.{batch_in}
 use Rattle.smart_messages.specs.declared.message.Message.TheVariants.{Reply}
+use Rattle.smart_messages.specs.declared.message.Message.TheVariants as changes
+use Rattle.smart_statements.specs.declared.statement.Ballot.{Ballot}
+use Rattle.smart_statements.specs.declared.report.Mark.{Mark}
+use Rattle.agreement_laws.proofs.Lists.{each_append}
 use Rattle.smart_messages.specs.declared.message.Message.{Message}
 use Rattle.smart_service.specs.Services.{Meaning}
 use Rattle.vote_book.specs.Books.{Among}
@@ -19,19 +22,20 @@ use Rattle.world_rules.specs.Premises.{is_among}
 use Rattle.world_rules.specs.Stated.{stated}
 use Rattle.world_rules.specs.Worlds.{course_of, Host, World, begun}
 use Rattle.world_rules.specs.Plays.{lines_told}
-use Rattle.world_laws.specs.Promises.{AreRepliesRight, IsAnswered, IsKept, IsRightStatement, numbers_from, OneList, OneListThroughout, world_at}
+use Rattle.world_laws.specs.Promises.{IsHeader, AreRepliesRight, IsAnswered, IsKept, IsRightStatement, numbers_from, OneList, OneListThroughout, world_at}
 use Rattle.world_rules.specs.declared.line.Line.{Line}
 use Rattle.world_laws.proofs.Keeps.{KeepsAll, keeps-world_after}
 use Rattle.world_laws.proofs.Kept.{all_recover, replied_kept}
 use Rattle.world_laws.specs.Sending.{QuorumReplied}
 use Rattle.client_quorum.specs.declared.client.Acceptance.{Acceptance}
-use Rattle.replica_laws.proofs.FitNodes.{IsBrief}
+use Rattle.replica_laws.proofs.Small.{IsBrief}
+use Rattle.world_laws.proofs.Snapshots.{AreRestorable, IsRestorable}
 use Rattle.world_laws.proofs.Unforged.{member_states}
 use Rattle.world_laws.proofs.Replied.{RightBorne, right-borne-kept, reply_there, Replied, keeps-replied, replied-begun}
 use Rattle.world_laws.proofs.Borne.{borne-begun}
-use Rattle.world_laws.proofs.Chosen.{ChosenRight, right-witnessed}
+use Rattle.world_laws.proofs.Chosen.{are_restorable, ChosenRight, right-witnessed}
 use Rattle.world_laws.proofs.ChosenKept.{right-reads, chosen-begun, chosen-aligned, chosen-prefix, witnessed-after}
-use Rattle.world_laws.proofs.Grows.{list-grows, view-stays}
+use Rattle.world_laws.proofs.Grows.{list-grows, view-stays, period-stays}
 use Rattle.replica_laws.specs.Lines.{HeldRight, ReplyRight}
 use Rattle.world_laws.proofs.Replies.{RepliesRight, reply_stated, keeps-replies, replies-begun}
 use Rattle.world_laws.proofs.Asked.{RequestsAsked, asked-after}
@@ -45,9 +49,11 @@ use Rattle.world_laws.proofs.Growing.{sent-grows, accepted-grows, diaries-grow}
 use Rattle.world_laws.proofs.Teaching.{has-taught}
 use Rattle.world_laws.proofs.Delivering.{deliveries-told}
 use Rattle.world_laws.proofs.Restarting.{restarts-told}
+use Rattle.world_laws.proofs.Resumed.{has-restarted}
 use Rattle.world_laws.proofs.Witnessing.{members_same}
 use Rattle.world_laws.proofs.Past.{past-known}
 use Rattle.smart_base.proofs.ViewFacts.{each-weaken}
+use Rattle.world_rules.specs.declared.line.Header.{Header}
 
 -- the list is right, all replies tell of it, clients keep replies that were sent, and accepted replies tell of the list
 abbrev pub Heard : {S : Type 0} → Meaning S → World S → Type 0
@@ -82,8 +88,21 @@ asked_right_if : {S : Type 0} (m : Meaning S) (w : World S) (batch : Option Batc
 asked_right_if m w None = tt
 asked_right_if m w (Some batch) = asked_right m w batch
 
+voted_right : {S : Type 0} (m : Meaning S) (w : World S) (ballots : List (SignedBy Ballot)) → Each (IsRightStatement m w) (map (λ b. statements.Voted b) ballots)
+voted_right m w [] = tt
+voted_right m w (b ∷ bs) = (tt, voted_right m w bs)
+
+marked_right : {S : Type 0} (m : Meaning S) (w : World S) (marks : List (SignedBy Mark)) → Each (IsRightStatement m w) (map (λ k. statements.Marked k) marks)
+marked_right m w [] = tt
+marked_right m w (k ∷ ks) = (tt, marked_right m w ks)
+
 right_message : {S : Type 0} (m : Meaning S) (w : World S) (x : Message) → RequestsAsked w → ReplyRight m w.view w.chosen x → Each (IsRightStatement m w) (said x)
 right_message m w (Reply a) requests right = (executed-right m w a.statement requests right, tt)
+right_message m w (changes.Decision d) requests right =
+    each_append (IsRightStatement m w) (map (λ b. statements.Voted b) d.accepts) (map (λ q. statements.Asked q) d.batch) (voted_right m w d.accepts) (asked_right m w d.batch)
+right_message m w (changes.StateOffer o) requests right = each_append (IsRightStatement m w) (map (λ k. statements.Marked k) o.marks) [] (marked_right m w o.marks) tt
+right_message m w (changes.StateAsk a) requests right = tt
+right_message m w (changes.StatePart p) requests right = tt
 right_message m w x requests right = (tt, asked_right_if m w (batch_in x))
 
 -- what members have stated that are not faulty is right
@@ -104,58 +123,61 @@ all_replies_right {S = S} m w is requests =
     }
 
 -- each event keeps that
-pub keeps-told_right : {S : Type 0} (m : Meaning S) → IsBrief m → KeepsAll (course_of m) (ToldRight m)
-keeps-told_right m brief =
+pub keeps-told_right : {S : Type 0} (m : Meaning S) → IsBrief m → IsRestorable m → KeepsAll (course_of m) (ToldRight m)
+keeps-told_right m brief service =
     keeps-told m (Heard m) (telling m)
-    (keeps-replied m (λ w. RightBorne m w × RepliesRight m w) (λ w is. is.0) (keeps-replies m (RightBorne m) (right-borne-kept m brief) (λ w is. chosen-aligned m w is.0)))
+    (keeps-replied m (λ w. RightBorne m w × RepliesRight m w) (λ w is. is.0) (keeps-replies m (RightBorne m) (right-borne-kept m brief service) (λ w is. chosen-aligned m w is.0)))
 
 -- so it holds after each line of a script
-pub told_right-at : {S : Type 0} (m : Meaning S) → IsBrief m → (view : View) → is_view view ≡ true → (ls : List Line) (k : ℕ) → ToldRight m (world_at m view ls k)
-told_right-at m brief view is ls k =
-    keeps-world_after (course_of m) (ToldRight m) (keeps-told_right m brief) (begun m view) (take k ls)
-    ((((chosen-begun m view is, borne-begun m view), replies-begun m view), replied-begun m view), told-begun m view)
+pub told_right-at : {S : Type 0} (m : Meaning S) → IsBrief m → IsRestorable m → (g : Header) → IsHeader g → (ls : List Line) (k : ℕ) → ToldRight m (world_at m g ls k)
+told_right-at m brief service g is ls k =
+    keeps-world_after (course_of m) (ToldRight m) (keeps-told_right m brief service) (begun m g) (take k ls)
+    ((((chosen-begun m g is, borne-begun m g is), replies-begun m g), replied-begun m g), told-begun m g)
 
 -- one list holds after each line of a script
-one_list-of : {S : Type 0} (m : Meaning S) (w : World S) → RequestsAsked w → ClientsRight w → map (λ c. c.id) w.clients ≡ numbers_from 1025 0 → ToldRight m w → OneList m w
-one_list-of m w requests clients numbers is =
+one_list-of : {S : Type 0} (m : Meaning S) → IsRestorable m → (w : World S) → RequestsAsked w → ClientsRight w → map (λ c. c.id) w.clients ≡ numbers_from 1025 0 → ToldRight m w → OneList m w
+one_list-of m service w requests clients numbers is =
+    let restorable : AreRestorable m w.view w.chosen = are_restorable m w service is.0.0.0.0.1 in
     record {
       members = is.0.0.0.0.1.ids;
       clients = numbers;
       hosts = chosen-prefix m w is.0.0.0.0;
       replied = all_replies_right m w is.0 requests;
-      recovers = all_recover m w is.0.0.0.0;
+      recovers = all_recover m w restorable is.0.0.0.0;
       accepted = accepted-right m w requests clients is.1;
       quorums = record { each = is.0.1.accepted };
-      kept = each-weaken (QuorumReplied w.view w.faulty w.sent) (λ (a : Acceptance). IsKept m w a.place) (λ a replied. replied_kept m w a is.0.0.0.0 replied) w.accepted is.0.1.accepted;
+      kept = each-weaken (QuorumReplied w.view w.faulty w.sent) (λ (a : Acceptance). IsKept m w a.place) (λ a replied. replied_kept m w a restorable is.0.0.0.0 replied) w.accepted is.0.1.accepted;
       apart = clients.all.apart;
       firm = is.0.0.0.1.sent;
     }
 
-pub one_list-at : {S : Type 0} (m : Meaning S) → IsBrief m → (view : View) → is_view view ≡ true → (ls : List Line) (k : ℕ) → OneList m (world_at m view ls k)
-one_list-at m brief view is ls k =
-    one_list-of m (world_at m view ls k) (asked-after m brief view (take k ls) is) (right-after m (course_of m) view (take k ls)) (numbers-after m view (take k ls)) (told_right-at m brief view is ls k)
+pub one_list-at : {S : Type 0} (m : Meaning S) → IsBrief m → IsRestorable m → (g : Header) → IsHeader g → (ls : List Line) (k : ℕ) → OneList m (world_at m g ls k)
+one_list-at m brief service g is ls k =
+    one_list-of m service (world_at m g ls k) (asked-after m brief service g (take k ls) is) (right-after m (course_of m) g (take k ls)) (numbers-after m g (take k ls)) (told_right-at m brief service g is ls k)
 
 -- each line that told of an accepted reply until then tells its answer
-pub told-at : {S : Type 0} (m : Meaning S) → IsBrief m → (view : View) → is_view view ≡ true → (ls : List Line) (k : ℕ)
-    → Each (IsAnswered m view (world_at m view ls k).chosen) (lines_told (course_of m) (begun m view) (take k ls))
-told-at m brief view is ls k = lines-answered m view (take k ls) (told_right-at m brief view is ls k).1
+pub told-at : {S : Type 0} (m : Meaning S) → IsBrief m → IsRestorable m → (g : Header) → IsHeader g → (ls : List Line) (k : ℕ)
+    → Each (IsAnswered m g.view (world_at m g ls k).chosen) (lines_told (course_of m) (begun m g) (take k ls))
+told-at m brief service g is ls k = lines-answered m g (take k ls) (told_right-at m brief service g is ls k).1
 
 -- one list holds throughout a script and only grows, and the lines of accepted replies tell its answers
-pub one_list-throughout : {S : Type 0} (m : Meaning S) → IsBrief m → (view : View) → is_view view ≡ true → (ls : List Line) → OneListThroughout m view ls
-one_list-throughout m brief view is ls = record {
-  one_list = one_list-at m brief view is ls;
-  viewed = λ k. view-stays m (begun m view) (take k ls);
-  faulty = faulty-declared m view ls;
-  rogue = rogue-declared m view ls;
-  grows = list-grows m view ls;
-  sent_grows = sent-grows m view ls;
-  accepted_grows = accepted-grows m view ls;
-  diaries_grow = diaries-grow m view ls;
-  told = told-at m brief view is ls;
-  told_all = λ k. lines-tell_all m view (take k ls);
-  told_deliveries = λ k. deliveries-told m view (take k ls) is;
-  told_restarts = λ k. restarts-told m brief view (take k ls) is;
-  taught = has-taught m view ls;
-  past_known = past-known m view ls;
-  witnessed = λ k. witnessed-after m brief view (take k ls) is;
+pub one_list-throughout : {S : Type 0} (m : Meaning S) → IsBrief m → IsRestorable m → (g : Header) → IsHeader g → (ls : List Line) → OneListThroughout m g ls
+one_list-throughout m brief service g is ls = record {
+  one_list = one_list-at m brief service g is ls;
+  viewed = λ k. view-stays m (begun m g) (take k ls);
+  period = λ k. period-stays m (begun m g) (take k ls);
+  faulty = faulty-declared m g ls;
+  rogue = rogue-declared m g ls;
+  grows = list-grows m g ls;
+  sent_grows = sent-grows m g ls;
+  accepted_grows = accepted-grows m g ls;
+  diaries_grow = diaries-grow m g ls;
+  told = told-at m brief service g is ls;
+  told_all = λ k. lines-tell_all m g (take k ls);
+  told_deliveries = λ k. deliveries-told m g (take k ls) is;
+  told_restarts = λ k. restarts-told m brief service g (take k ls) is;
+  restarted = λ k member line. has-restarted m g ls k member line (one_list-at m brief service g is ls k).recovers;
+  taught = has-taught m g ls;
+  past_known = past-known m g ls;
+  witnessed = λ k. witnessed-after m brief service g (take k ls) is;
 }

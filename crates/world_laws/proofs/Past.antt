@@ -2,6 +2,7 @@
 use Rattle.std.proofs.Common.{◌≡◌, ℕ, zero, suc, ◌≤◌, ◌++◌, List, [], ◌∷◌, refl, ap, sym, Option, Some, None, inl, inr, ◌⊎◌, subst, arith, append-nil, take, ◌∙◌}
 use Rattle.node_rules.specs.Nodes.{view_of}
 use Rattle.std.specs.Prelude.{slice_get, slice_set}
+use Rattle.std.specs.List.{flat_map}
 use Rattle.smart_base.specs.Lists.{Each}
 use Rattle.smart_base.specs.Views.{View}
 use Rattle.smart_statements.specs.Forms.{SignedBy}
@@ -17,13 +18,14 @@ use Rattle.client_quorum.specs.declared.client.Heard.TheVariants as hears
 use Rattle.world_rules.specs.Clients.{heard}
 use Rattle.world_rules.specs.Knowing.{known_by}
 use Rattle.world_laws.specs.Promises.{HasAsked, IsPast, world_at}
-use Rattle.world_rules.specs.Worlds.{Course, course_of, Host, World, posts, stepped, acceptance_in, hearing, begun}
+use Rattle.world_rules.specs.Worlds.{Course, course_of, Host, World, posts, all_ending, snapshot_in, stepped, acceptance_in, hearing, begun}
 use Rattle.world_rules.specs.Plays.{rested, world_after, lines_told}
 use Rattle.world_rules.specs.declared.line.Line.{Line}
 use Rattle.world_rules.specs.declared.line.OutLine.{OutLine}
 use Rattle.world_rules.specs.declared.message.Ending.{Ending}
 use Rattle.world_rules.specs.declared.message.Sent.{Sent}
 use Rattle.world_laws.proofs.Numbered.{EachAt, each_at_get, each_at_weaker, each_at_set, each_at_both}
+use Rattle.world_laws.proofs.Meeting.{met-goes_on}
 use Rattle.world_laws.proofs.Keeps.{ask_of, asked_by, by-posts-ended, KeepsAll, KeepsLives, keeps-world_after, live-world_after, signed_by, from_node, from_client, from_script, keeps-sends_all}
 use Rattle.world_laws.proofs.Hearing.{Accepts, accepts_waiting}
 use Rattle.world_laws.proofs.Asks.{asked_grows}
@@ -32,6 +34,7 @@ use Rattle.world_laws.proofs.Grows.{world_after-append}
 use Rattle.world_laws.proofs.Seen.{id_at, seen-told}
 use Rattle.agreement_laws.proofs.Lists.{some_equal, each_end}
 use Rattle.smart_base.proofs.ViewFacts.{each-weaken}
+use Rattle.world_rules.specs.declared.line.Header.{Header}
 
 -- what was sent stays
 
@@ -61,6 +64,7 @@ keeps-sent course q =
         inject = λ w x read fine asked. asked_grows w (from_script x) q asked;
         declare = λ w faulty rogue ending how asked. asked;
         same = λ w mark told asked. asked;
+        meet = λ w texts on asked. asked;
       };
       resume = λ w i h down at asked. asked;
     }
@@ -97,7 +101,14 @@ past-posts {S = S} before known w s is =
 past-stepped : {S : Type 0} (course : Course S) (before : List Sent) (known : ℕ → ℕ) (w : World S) (i : ℕ) (h : Host S) (o : Outcome S) → AllPast before known w → AllPast before known (stepped course w i h o)
 unfolding stepped
 past-stepped {S = S} course before known w i h o is =
-    keeps-sends_all (λ (v : World S). AllPast before known v) h.node.id (view_of o.node) (λ v held past. past-posts before known v (from_node h.node.id (view_of o.node) held) past) _ (leaving o.node.firm o.node.held) (record { each = is.each; accepted = is.accepted })
+    let snapshots : List (List ℕ) = flat_map snapshot_in o.fired in
+    let ended : Option Ending = all_ending w.sent w.marked w.ending snapshots in
+    keeps-sends_all (λ (v : World S). AllPast before known v) h.node.id (view_of o.node) (λ v held past. past-posts before known v (from_node h.node.id (view_of o.node) held) past) _ (leaving o.node.firm o.node.held)
+    (record {
+      each = each_at_weaker (ClientPast before known w.ending) (ClientPast before known ended)
+          (λ i c past. record { seen = past.seen; waits = λ q waits on. past.waits q waits (met-goes_on w.sent w.marked w.ending snapshots on) }) w.clients is.each;
+      accepted = is.accepted;
+    })
 
 -- one client changes
 
@@ -183,6 +194,14 @@ keeps-stating course before known =
           },
         );
         mark = λ w s on at is. (k.live.mark w s on at is.0, record { each = is.1.each; accepted = is.1.accepted });
+        meet = λ w texts on is. (
+          k.live.meet w texts on is.0,
+          record {
+            each = each_at_weaker (ClientPast before known w.ending) (ClientPast before known (all_ending w.sent w.marked w.ending texts))
+                (λ i c past. record { seen = past.seen; waits = λ q waits still. past.waits q waits (met-goes_on w.sent w.marked w.ending texts still) }) w.clients is.1.each;
+            accepted = is.1.accepted;
+          },
+        );
         tell = λ w line aside is. (k.live.tell w line aside is.0, record { each = is.1.each; accepted = is.1.accepted });
       };
       crash = λ w i h left on up at may is. (k.crash w i h left on up at may is.0, record { each = is.1.each; accepted = is.1.accepted });
@@ -218,39 +237,39 @@ front_more (l ∷ ls) (suc j) (suc k) le =
     (later.0, ap (λ (xs : List Line). l ∷ xs) later.1)
 
 -- the world after the longer is the one after more lines behind the shorter
-pub world-more : {S : Type 0} (m : Meaning S) (view : View) (ls : List Line) (j k : ℕ) → j ≤ k → (more : List Line) × (world_at m view ls k ≡ world_after (course_of m) (world_at m view ls j) more)
-world-more m view ls j k le =
+pub world-more : {S : Type 0} (m : Meaning S) (g : Header) (ls : List Line) (j k : ℕ) → j ≤ k → (more : List Line) × (world_at m g ls k ≡ world_after (course_of m) (world_at m g ls j) more)
+world-more m g ls j k le =
     let front = front_more ls j k le in
-    (front.0, ap (λ xs. world_after (course_of m) (begun m view) xs) front.1 ∙ world_after-append (course_of m) (begun m view) (take j ls) front.0)
+    (front.0, ap (λ xs. world_after (course_of m) (begun m g) xs) front.1 ∙ world_after-append (course_of m) (begun m g) (take j ls) front.0)
 
 -- all that was accepted in a world had been sent by then, or states what its client knew then
 abbrev AllAccepted : {S : Type 0} → List Sent → List OutLine → World S → Type 0
 AllAccepted sent told w = Each (λ a. IsPast sent told a.request) w.accepted
 
 -- what is accepted later had been sent, or states what its client knew
-past-later : {S : Type 0} (m : Meaning S) (view : View) (ls : List Line) (j k : ℕ) → j ≤ k
-    → AllAccepted (world_at m view ls j).sent (lines_told (course_of m) (begun m view) (take j ls)) (world_at m view ls k)
-past-later {S = S} m view ls j k le =
-    let before : World S = world_at m view ls j in
-    let told : List OutLine = lines_told (course_of m) (begun m view) (take j ls) in
+past-later : {S : Type 0} (m : Meaning S) (g : Header) (ls : List Line) (j k : ℕ) → j ≤ k
+    → AllAccepted (world_at m g ls j).sent (lines_told (course_of m) (begun m g) (take j ls)) (world_at m g ls k)
+past-later {S = S} m g ls j k le =
+    let before : World S = world_at m g ls j in
+    let told : List OutLine = lines_told (course_of m) (begun m g) (take j ls) in
     let known : ℕ → ℕ = λ i. known_by i told in
-    let later = world-more m view ls j k le in
-    let now : Stating before.sent known before = stating-now known before (seen-told m (course_of m) view (take j ls)) (right-after m (course_of m) view (take j ls)) in
+    let later = world-more m g ls j k le in
+    let now : Stating before.sent known before = stating-now known before (seen-told m (course_of m) g (take j ls)) (right-after m (course_of m) g (take j ls)) in
     let after : Stating before.sent known (world_after (course_of m) before later.0) =
     live-world_after (course_of m) (Stating before.sent known) (keeps-stating (course_of m) before.sent known) (rested-stating before.sent known) before later.0 now in
     subst (AllAccepted before.sent told) (sym later.1) after.1.accepted
 
 -- what was accepted earlier had been sent
-past-earlier : {S : Type 0} (m : Meaning S) (view : View) (ls : List Line) (j k : ℕ) → k ≤ j
-    → AllAccepted (world_at m view ls j).sent (lines_told (course_of m) (begun m view) (take j ls)) (world_at m view ls k)
-past-earlier {S = S} m view ls j k le =
-    let earlier : World S = world_at m view ls k in
-    let told : List OutLine = lines_told (course_of m) (begun m view) (take j ls) in
-    let later = world-more m view ls k j le in
+past-earlier : {S : Type 0} (m : Meaning S) (g : Header) (ls : List Line) (j k : ℕ) → k ≤ j
+    → AllAccepted (world_at m g ls j).sent (lines_told (course_of m) (begun m g) (take j ls)) (world_at m g ls k)
+past-earlier {S = S} m g ls j k le =
+    let earlier : World S = world_at m g ls k in
+    let told : List OutLine = lines_told (course_of m) (begun m g) (take j ls) in
+    let later = world-more m g ls k j le in
     subst (λ (w : World S). AllAccepted w.sent told earlier) (sym later.1)
     (each-weaken (λ (a : Acceptance). HasAsked earlier.sent a.request) (λ (a : Acceptance). IsPast (world_after (course_of m) earlier later.0).sent told a.request)
     (λ a asked. inl (keeps-world_after (course_of m) (λ (w : World S). HasAsked w.sent a.request) (keeps-sent (course_of m) a.request) earlier later.0 asked))
-    earlier.accepted (right-after m (course_of m) view (take k ls)).all.asked)
+    earlier.accepted (right-after m (course_of m) g (take k ls)).all.asked)
 
 -- of two numbers one is no more than the other
 in_order : (j k : ℕ) → (j ≤ k) ⊎ (k ≤ j)
@@ -259,6 +278,6 @@ in_order (suc j) zero = inr (omega arith)
 in_order (suc j) (suc k) = elim (in_order j k) [ inl le ↦ inl (omega (arith, le)) | inr le ↦ inr (omega (arith, le)) ]
 
 -- whatever was accepted and whenever, its request had been sent by a line, or it states what its client knew then
-pub past-known : {S : Type 0} (m : Meaning S) (view : View) (ls : List Line) (j k : ℕ)
-    → Each (λ a. IsPast (world_at m view ls j).sent (lines_told (course_of m) (begun m view) (take j ls)) a.request) (world_at m view ls k).accepted
-past-known m view ls j k = elim (in_order j k) [ inl le ↦ past-later m view ls j k le | inr le ↦ past-earlier m view ls j k le ]
+pub past-known : {S : Type 0} (m : Meaning S) (g : Header) (ls : List Line) (j k : ℕ)
+    → Each (λ a. IsPast (world_at m g ls j).sent (lines_told (course_of m) (begun m g) (take j ls)) a.request) (world_at m g ls k).accepted
+past-known m g ls j k = elim (in_order j k) [ inl le ↦ past-later m g ls j k le | inr le ↦ past-earlier m g ls j k le ]

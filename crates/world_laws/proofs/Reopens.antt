@@ -1,33 +1,37 @@
 -- A node that goes on after a crash: it delivers in order, what it holds has a spelling, and what it will send rests on its book.
-use Rattle.std.proofs.Common.{◌≡◌, ℕ, ◌+◌, ◌^◌, ◌<◌, ◌==◌, true, false, List, [], ◌∷◌, Option, Some, None, length, nat_lt, arith, subst, sym, refl}
-use Rattle.std.specs.List.{cons_option}
+use Rattle.std.proofs.Common.{◌≡◌, ap, zero, suc, ℕ, ◌^◌, ◌<◌, ◌==◌, true, false, List, [], ◌∷◌, Option, Some, None, length, arith, subst, sym, refl, ◌++◌, take}
 use Rattle.smart_base.specs.Lists.{Each}
 use Rattle.smart_base.specs.Views.{View, is_view, present}
-use Rattle.smart_statements.specs.Batches.{Batch, FitsBatch}
+use Rattle.smart_statements.specs.Batches.{Batch}
 use Rattle.smart_statements.specs.Spelling.{IsSigner}
 use Rattle.smart_service.specs.Services.{Meaning, Comes, comes_first, comes_next}
-use Rattle.smart_service.specs.Tables.{kept_in}
-use Rattle.smart_service.specs.declared.replica.Replica.{Replica}
 use Rattle.vote_book.specs.Entries.{FitsEntry}
 use Rattle.vote_book.specs.declared.entry.LogEntry.{LogEntry}
 use Rattle.vote_book.specs.declared.entry.LogEntry.TheVariants.{Opened, Wrote, Accepted, Promised, Synced, Decided, Installed, Marked}
-use Rattle.replica_rules.specs.Replicas.{at_next, delivered, executed_lines, after_batches, empty, state, views_after}
+use Rattle.replica_rules.specs.Replicas.{empty, state, views_after}
 use Rattle.agreement_laws.specs.Statements.{Statement}
 use Rattle.node_rules.specs.Nodes.{Node, regency_in, greatest_regency, regency_of}
-use Rattle.node_rules.specs.Reopening.{decided_of, reopened}
-use Rattle.node_rules.specs.Steps.{opened, outset}
-use Rattle.node_laws.proofs.Reopened.{reopened_is, sound_reopened}
+use Rattle.node_rules.specs.Reopening.{entries_in, reopened, outset_from, reopened_from}
+use Rattle.node_rules.specs.declared.node.Parts.{Parts}
+use Rattle.node_rules.specs.Steps.{Outset, opened, outset}
+use Rattle.node_laws.proofs.Reopened.{reopened_is}
+use Rattle.node_laws.proofs.Cuts.{cut_each, cut_reopened}
+use Rattle.node_laws.specs.Restoring.{outset_behind, AreAlong, resumed_node}
+use Rattle.book_laws.specs.BookCuts.{cut_at, InstallUpTo}
+use Rattle.vote_book.specs.Books.{HasMade, last_made}
 use Rattle.node_laws.specs.Restored.{IsSoundBook}
-use Rattle.node_laws.specs.Sound.{IsSound}
-use Rattle.replica_laws.proofs.Again.{each-delivered}
-use Rattle.replica_laws.proofs.Resumed.{going}
-use Rattle.replica_laws.proofs.Onward.{NodeRests}
-use Rattle.replica_laws.proofs.FitNodes.{FitNode, FitsLine, IsBrief, fit-as, lines_of-fit, view-low}
+use Rattle.replica_laws.proofs.FitNodes.{FitNode, fit-as, FitsSnapshot, read-lines}
+use Rattle.replica_laws.proofs.Small.{IsBrief, small-fits}
 use Rattle.replica_laws.proofs.FitNodes as nodes
 use Rattle.replica_laws.proofs.FitBooks.{FitBook, spelled-opened}
-use Rattle.agreement_laws.proofs.Lists.{either}
-use Rattle.replica_rules.proofs.Coming.{valid_delivered, valid_state}
-use Rattle.replica_rules.proofs.Places.{views_delivered, place_delivered, state_views}
+use Rattle.agreement_laws.proofs.Lists.{either, each_take}
+use Rattle.replica_rules.proofs.Places.{state_views}
+use Rattle.node_rules.specs.declared.node.OwnSnapshot.{OwnSnapshot}
+use Rattle.snapshot_form.proofs.Executed.{fits_after, fits_empty}
+use Rattle.snapshot_form.specs.Replicas.{FitsReplica, IsOfClients, is_first_view}
+use Rattle.std.proofs.lemmas.List.{length-take}
+use Rattle.std.specs.Prelude.{IfSome}
+use Rattle.std.specs.Option.{option_to_list}
 
 -- ---- what has a spelling
 
@@ -45,82 +49,106 @@ regency-fits view (e ∷ es) each = let rest = regency-fits view es each.1 in le
     one (Installed i) fit = omega arith
     one (Marked k) fit = omega arith
 
-batches-fit : (es : List LogEntry) → Each FitsEntry es → Each FitsBatch (decided_of 0 es)
-batches-fit [] each = tt
-batches-fit (Opened o ∷ es) each = batches-fit es each.1
-batches-fit (Wrote w ∷ es) each = batches-fit es each.1
-batches-fit (Accepted a ∷ es) each = batches-fit es each.1
-batches-fit (Promised p ∷ es) each = batches-fit es each.1
-batches-fit (Synced s ∷ es) each = batches-fit es each.1
-batches-fit (Decided d ∷ es) each =
-    let rest = batches-fit es each.1 in
-    either (λ (o : Option Batch). Each FitsBatch (cons_option o (decided_of 0 es))) (nat_lt 0 d.slot.place) (Some d.batch) None (each.0.batch_fits, rest) rest
-batches-fit (Installed i ∷ es) each = batches-fit es each.1
-batches-fit (Marked k ∷ es) each = batches-fit es each.1
+-- the state after batches of clients that there are has a snapshot
+pub state-fits : {S : Type 0} (m : Meaning S) → IsBrief m → (view : View) (batches : List Batch) → is_view view ≡ true → is_first_view view ≡ true → length batches < 2 ^ 63 → Each IsOfClients batches
+    → FitsReplica (Comes m) (state m view batches)
+state-fits m brief view batches viewed begins few of =
+    fits_after m (Comes m) (λ s op is. comes_next s op is) brief.brief (empty m view) batches (fits_empty m (Comes m) view comes_first viewed begins) (omega (arith, few)) of
 
-executed-fit : {S : Type 0} (m : Meaning S) → IsBrief m → (r : Replica S) (batch : Batch) → (present r.views).number < 2 ^ 32 → r.place + 1 < 2 ^ 63 → FitsBatch batch → Comes m r.service
-    → Each FitsLine (executed_lines m r batch)
-unfolding executed_lines
-executed-fit m brief r batch view low fit come = lines_of-fit m brief (at_next r) 0 batch view (omega arith, low) (omega (arith, fit.count_fits.1)) come fit.each_fits
+-- a node that opens a new book
+fit_opened : {S : Type 0} (secret : List ℕ) (m : Meaning S) (id : ℕ) (view : View) (period : ℕ) → IsSigner 1 id → is_view view ≡ true → period < 2 ^ 32 → FitBook m secret (reopened m (outset m secret id view period) [])
+unfolding reopened
+fit_opened {S = S} secret m id view period named viewed low =
+    let n : Node S = opened (outset m secret id view period) in
+    let is : FitBook m secret n = spelled-opened secret m id view period named viewed low in
+    record { node = fit-as secret n 0 [] false false false true is.node; book = is.book }
 
-lines-fit : {S : Type 0} (m : Meaning S) → IsBrief m → (r : Replica S) (bs : List Batch) → (present r.views).number < 2 ^ 32 → r.place + length bs < 2 ^ 63 → Each FitsBatch bs
-    → Comes m r.service → Each FitsLine (kept_in r.table) → Each FitsLine (kept_in (after_batches m r bs).table)
-lines-fit m brief r [] view low fit come lines = lines
-lines-fit {S = S} m brief r (b ∷ bs) view low fit come lines =
-    lines-fit m brief (delivered m r b) bs
-    (subst (λ (vs : List View). (present vs).number < 2 ^ 32) (sym (views_delivered m r b)) view)
-    (let next : (delivered m r b).place ≡ r.place + 1 = place_delivered m r b in omega (arith, next, low))
-    fit.1 (valid_delivered m (Comes m) comes_next r b come) (each-delivered FitsLine m r b lines (executed-fit m brief r b view (omega (arith, low)) fit.0 come))
+-- ---- from a checkpoint
 
-going_fits : {S : Type 0} (secret : List ℕ) (m : Meaning S) → IsBrief m → (id : ℕ) (view : View) (period : ℕ) (es : List LogEntry) → IsSigner 1 id → is_view view ≡ true
-    → Each (nodes.FitsEntry secret) es → Each FitsEntry es → length (decided_of 0 es) < 2 ^ 63 → FitNode m secret (going m (outset m secret id view period) es)
-unfolding going regency_of views_after
-going_fits secret m brief id view period es named viewed kept spelled few =
-    let vs : (state m view (decided_of 0 es)).views ≡ view ∷ [] = state_views m view (decided_of 0 es) in
-    let from_none : 0 + length (decided_of 0 es) < 2 ^ 63 = omega (arith, few) in
+-- who goes on
+pub named : {S : Type 0} (m : Meaning S) (o : Outset S) (entries : List LogEntry) → (reopened m o entries).id ≡ o.member
+unfolding reopened
+named m o [] = refl
+named {S = S} m o (e ∷ es) = ap (λ (n : Node S). n.id) (reopened_is m o e es)
+
+pub from_named : {S : Type 0} (m : Meaning S) (secret : List ℕ) (id : ℕ) (view : View) (period : ℕ) (parts : Parts) → (reopened_from m secret id view period parts).id ≡ id
+unfolding reopened_from
+from_named m secret id view period parts = named m (outset_from m secret id view period parts.snapshot) (entries_in parts.entries)
+
+-- it holds nothing yet
+pub held_none : {S : Type 0} (m : Meaning S) (o : Outset S) (entries : List LogEntry) → (reopened m o entries).held ≡ []
+unfolding reopened
+held_none m o [] = refl
+held_none {S = S} m o (e ∷ es) = ap (λ (n : Node S). n.held) (reopened_is m o e es)
+
+pub from_held : {S : Type 0} (m : Meaning S) (secret : List ℕ) (id : ℕ) (view : View) (period : ℕ) (parts : Parts) → (reopened_from m secret id view period parts).held ≡ []
+unfolding reopened_from
+from_held m secret id view period parts = held_none m (outset_from m secret id view period parts.snapshot) (entries_in parts.entries)
+
+-- the node that goes on from a checkpoint of a place along a list, with the cut of a diary there
+abbrev pub node_behind : {S : Type 0} → Meaning S → List ℕ → ℕ → View → ℕ → ℕ → List Batch → Option OwnSnapshot → List LogEntry → Node S
+node_behind m secret id view period place batches checkpoint d = reopened m (outset_behind m secret id view period place batches checkpoint) (cut_at place d)
+
+-- no diary without entries has made a place
+pub none_made : (k : ℕ) → (0 < suc k → HasMade [] (suc k)) → ⊥
+none_made k made = (made (omega arith)).there
+
+-- what a diary is from which a node goes on over a checkpoint of a place: it has made the place, installs nothing past it, and decides along the list
+pub record GoesBehind (secret : List ℕ) (stated : List Statement) (view : View) (place : ℕ) (batches : List Batch) (d : List LogEntry) : Type 0 where
+  pub sound : IsSoundBook secret stated view d
+  pub made : 0 < place → HasMade d place
+  pub upto : InstallUpTo place d
+  pub along : AreAlong batches d
+
+-- its replica is the state of the list after the last place that the diary makes
+pub behind_replica : {S : Type 0} (m : Meaning S) (secret : List ℕ) (id : ℕ) (stated : List Statement) (view : View) (period place : ℕ) (batches : List Batch) (checkpoint : Option OwnSnapshot) (d : List LogEntry)
+    → GoesBehind secret stated view place batches d → (node_behind m secret id view period place batches checkpoint d).replica ≡ state m view (take (last_made d) batches)
+unfolding reopened
+behind_replica m secret id stated view period zero batches checkpoint [] is = refl
+behind_replica m secret id stated view period (suc k) batches checkpoint [] is = absurd (none_made k is.made)
+behind_replica {S = S} m secret id stated view period place batches checkpoint (e ∷ es) is =
+    ap (λ (n : Node S). n.replica) (cut_reopened m secret id stated view period place batches checkpoint e es is.sound is.made is.upto is.along)
+
+-- all that such a node holds has a spelling
+behind_fits : {S : Type 0} (secret : List ℕ) (m : Meaning S) → IsBrief m → (id : ℕ) (view : View) (period place : ℕ) (batches : List Batch) (checkpoint : Option OwnSnapshot) (es : List LogEntry) → IsSigner 1 id
+    → is_view view ≡ true → is_first_view view ≡ true → length batches < 2 ^ 63 → Each IsOfClients batches → IfSome checkpoint FitsSnapshot → Each (nodes.FitsEntry secret) es → Each FitsEntry es
+    → FitNode m secret (resumed_node m secret id view period place batches checkpoint es)
+unfolding regency_of views_after
+behind_fits secret m brief id view period place batches checkpoint es named viewed begins few of own kept spelled =
+    let bs : List Batch = take (last_made es) batches in
+    let less = length-take (last_made es) batches in
+    let small = small-fits m (state m view bs) (state-fits m brief view bs viewed begins (omega (arith, few, less)) (each_take IsOfClients (last_made es) batches of)) in
+    let vs : (state m view bs).views ≡ view ∷ [] = state_views m view bs in
     record {
       named = named;
       shared = refl;
       view = subst (λ (xs : List View). is_view (present xs) ≡ true) (sym vs) viewed;
-      views = subst (λ (xs : List View). Each (λ v. is_view v ≡ true) xs) (sym vs) (viewed, tt);
-      regency = regency-fits (present (state m view (decided_of 0 es)).views).number es spelled;
-      lines = lines-fit m brief (empty m view) (decided_of 0 es) (view-low view viewed) from_none (batches-fit es spelled) comes_first tt;
+      views = small.views_fit;
+      regency = regency-fits (present (state m view bs).views).number (cut_at place es) (cut_each FitsEntry place es spelled);
+      lines = read-lines m (state m view bs) small;
       pool = tt;
       arrivals = tt;
       told = tt;
       begun = tt;
-      book = kept;
+      book = cut_each (nodes.FitsEntry secret) place es kept;
       waiting = tt;
       held = tt;
-      service = valid_state m (Comes m) comes_next view (decided_of 0 es) comes_first;
+      service = small.service_fits;
+      transfers = record { small = small; owned = owned checkpoint own; shown_fit = tt; offers_fit = tt; table_fits = tt; fetch_fits = tt };
     }
+  where
+    owned : (o : Option OwnSnapshot) → IfSome o FitsSnapshot → Each FitsSnapshot (option_to_list o ++ [])
+    owned None is = tt
+    owned (Some x) is = (is, tt)
 
--- the entries of a node that fits, or a front of them, leave one that fits
-pub fit_reopened : {S : Type 0} (secret : List ℕ) (m : Meaning S) → IsBrief m → (id : ℕ) (view : View) (period : ℕ) (entries : List LogEntry) → IsSigner 1 id → is_view view ≡ true
-    → period < 2 ^ 32 → Each (nodes.FitsEntry secret) entries → Each FitsEntry entries → length (decided_of 0 entries) < 2 ^ 63
-    → FitBook m secret (reopened m (outset m secret id view period) entries)
-unfolding reopened going
-fit_reopened {S = S} secret m brief id view period [] named viewed low kept spelled few =
-    let n : Node S = opened (outset m secret id view period) in
-    let is : FitBook m secret n = spelled-opened secret m id view period named viewed low in
-    record { node = fit-as secret n 0 [] false false false true is.node; book = is.book }
-fit_reopened {S = S} secret m brief id view period (e ∷ es) named viewed low kept spelled few =
-    subst (λ (n : Node S). FitBook m secret n) (sym (reopened_is m (outset m secret id view period) e es))
-    (record { node = going_fits secret m brief id view period (e ∷ es) named viewed kept spelled few; book = spelled })
-
--- ---- what is behind a reply
-
-going_rests : {S : Type 0} (m : Meaning S) (secret : List ℕ) (id : ℕ) (stated : List Statement) (view : View) (period : ℕ) (es : List LogEntry) → IsSound stated view (going m (outset m secret id view period) es)
-    → NodeRests (going m (outset m secret id view period) es)
-unfolding going
-going_rests m secret id stated view period es is = record { held = tt; waits = tt; lines = is.table }
-
-pub rests_reopened : {S : Type 0} (m : Meaning S) (secret : List ℕ) (id : ℕ) (stated : List Statement) (view : View) (period : ℕ) (entries : List LogEntry)
-    → IsSoundBook secret stated view entries → NodeRests (reopened m (outset m secret id view period) entries)
-unfolding reopened going
-rests_reopened m secret id stated view period [] book = record { held = tt; waits = tt; lines = tt }
-rests_reopened {S = S} m secret id stated view period (e ∷ es) book =
-    let same = reopened_is m (outset m secret id view period) e es in
-    let is : IsSound stated view (going m (outset m secret id view period) (e ∷ es)) =
-    subst (λ (n : Node S). IsSound stated view n) same (sound_reopened m secret id stated view period (e ∷ es) book) in
-    subst (λ (n : Node S). NodeRests n) (sym same) (going_rests m secret id stated view period (e ∷ es) is)
+-- a node goes on so, with a checkpoint if its diary has an entry
+pub fit_behind : {S : Type 0} (secret : List ℕ) (m : Meaning S) → IsBrief m → (id : ℕ) (stated : List Statement) (view : View) (period place : ℕ) (batches : List Batch) (checkpoint : Option OwnSnapshot) (d : List LogEntry)
+    → GoesBehind secret stated view place batches d → (place ≡ 0 → checkpoint ≡ None) → IsSigner 1 id → is_view view ≡ true → is_first_view view ≡ true → period < 2 ^ 32 → length batches < 2 ^ 63 → Each IsOfClients batches
+    → IfSome checkpoint FitsSnapshot → Each (nodes.FitsEntry secret) d → Each FitsEntry d → FitBook m secret (node_behind m secret id view period place batches checkpoint d)
+unfolding reopened
+fit_behind {S = S} secret m brief id stated view period zero batches checkpoint [] is none named viewed begins low few of own kept spelled =
+    subst (λ (o : Option OwnSnapshot). FitBook m secret (node_behind m secret id view period zero batches o [])) (sym (none refl)) (fit_opened secret m id view period named viewed low)
+fit_behind secret m brief id stated view period (suc k) batches checkpoint [] is none named viewed begins low few of own kept spelled = absurd (none_made k is.made)
+fit_behind {S = S} secret m brief id stated view period place batches checkpoint (e ∷ es) is none named viewed begins low few of own kept spelled =
+    subst (λ (n : Node S). FitBook m secret n) (sym (cut_reopened m secret id stated view period place batches checkpoint e es is.sound is.made is.upto is.along))
+    (record { node = behind_fits secret m brief id view period place batches checkpoint (e ∷ es) named viewed begins few of own kept spelled; book = cut_each FitsEntry place (e ∷ es) spelled })

@@ -5,7 +5,7 @@ use Rattle.node_rules.specs.Nodes.{view_of}
 use Rattle.std.specs.Prelude.{slice_get}
 use Rattle.std.specs.List.{list_any}
 use Rattle.smart_base.specs.Lists.{Each}
-use Rattle.smart_base.specs.Views.{View, is_view}
+use Rattle.smart_base.specs.Views.{View}
 use Rattle.smart_statements.specs.Forms.{SignedBy}
 use Rattle.smart_statements.specs.Kinds.{answers}
 use Rattle.smart_statements.specs.declared.statement.Answer.{Answer}
@@ -34,7 +34,8 @@ use Rattle.world_rules.specs.declared.message.Sent.{Sent}
 use Rattle.world_laws.specs.Sending.{IsOwnSent, is_reply, is_of, is_for, is_reply_of, has_replied, QuorumReplied, QuorumsReplied}
 use Rattle.world_laws.proofs.Lists.{each_set, each_get}
 use Rattle.world_laws.proofs.Keeps.{HasContent, HasMessage, ask_of, asked_by, by-posts, keeps-sends_all, has_end, read_has, KeepsAll, keeps-world_after, signed_by, from_node, from_client, from_script}
-use Rattle.replica_laws.proofs.FitNodes.{IsBrief}
+use Rattle.replica_laws.proofs.Small.{IsBrief}
+use Rattle.world_laws.proofs.Snapshots.{IsRestorable}
 use Rattle.agreement_laws.proofs.Lists.{each_among, each_end, or_true}
 use Rattle.world_laws.proofs.Hearing.{accepts_waiting}
 use Rattle.world_laws.proofs.Given.{IsKept, ClientKeeps, filter_more, keeps_heard, quorum_gave}
@@ -50,6 +51,8 @@ use Rattle.world_laws.proofs.ChosenKept.{right-reads, chosen-begun}
 use Rattle.smart_base.proofs.SameLists.{and_true}
 use Rattle.smart_base.proofs.ViewFacts.{each-weaken}
 use Rattle.std.proofs.lemmas.Bool.{or_left, or_right, and_from}
+use Rattle.world_rules.specs.declared.line.Header.{Header}
+use Rattle.world_laws.specs.Promises.{IsHeader}
 
 -- the list is right, and what was sent is each one's own
 abbrev pub RightBorne : {S : Type 0} → Meaning S → World S → Type 0
@@ -203,8 +206,8 @@ replied-hearing m w i c a at has right is =
     }
 
 -- each event keeps the list right, and what was sent each one's own
-pub right-borne-kept : {S : Type 0} (m : Meaning S) → IsBrief m → KeepsAll (course_of m) (RightBorne m)
-right-borne-kept m brief = right-borne m brief
+pub right-borne-kept : {S : Type 0} (m : Meaning S) → IsBrief m → IsRestorable m → KeepsAll (course_of m) (RightBorne m)
+right-borne-kept m brief service = right-borne m brief service
 
 -- where the list is right, each event keeps that
 pub keeps-replied : {S : Type 0} (m : Meaning S) (P : World S → Type 0) → ((w : World S) → P w → RightBorne m w) → KeepsAll (course_of m) P → KeepsAll (course_of m) (λ w. P w × Replied w)
@@ -240,6 +243,7 @@ keeps-replied m P right k =
           },
         );
         same = λ w mark told p. (k.kept.same w mark told p.0, record { clients = p.1.clients; accepted = p.1.accepted });
+        meet = λ w texts on p. (k.kept.meet w texts on p.0, record { clients = p.1.clients; accepted = p.1.accepted });
       };
       resume = λ w i h down at p. (k.resume w i h down at p.0, record { clients = p.1.clients; accepted = p.1.accepted });
     }
@@ -252,13 +256,13 @@ unfolding clients_from
 fresh_keep sent zero i = tt
 fresh_keep sent (suc count) i = (tt, fresh_keep sent count (i + 1))
 
-pub replied-begun : {S : Type 0} (m : Meaning S) (view : View) → Replied (begun m view)
-replied-begun m view = record { clients = fresh_keep [] 1025 0; accepted = tt }
+pub replied-begun : {S : Type 0} (m : Meaning S) (g : Header) → Replied (begun m g)
+replied-begun m g = record { clients = fresh_keep [] 1025 0; accepted = tt }
 
 -- after the lines of any script, of each reply that a client accepted a quorum has sent it, but for those that are faulty
-pub quorums_replied : {S : Type 0} (m : Meaning S) → IsBrief m → (view : View) (ls : List Line) → is_view view ≡ true → QuorumsReplied (world_after (course_of m) (begun m view) ls)
-quorums_replied {S = S} m brief view ls is =
+pub quorums_replied : {S : Type 0} (m : Meaning S) → IsBrief m → IsRestorable m → (g : Header) (ls : List Line) → IsHeader g → QuorumsReplied (world_after (course_of m) (begun m g) ls)
+quorums_replied {S = S} m brief service g ls is =
     record {
-      each = (keeps-world_after (course_of m) (λ (w : World S). RightBorne m w × Replied w) (keeps-replied m (RightBorne m) (λ w right. right) (right-borne-kept m brief)) (begun m view) ls
-          ((chosen-begun m view is, borne-begun m view), replied-begun m view)).1.accepted;
+      each = (keeps-world_after (course_of m) (λ (w : World S). RightBorne m w × Replied w) (keeps-replied m (RightBorne m) (λ w right. right) (right-borne-kept m brief service)) (begun m g) ls
+          ((chosen-begun m g is, borne-begun m g is), replied-begun m g)).1.accepted;
     }

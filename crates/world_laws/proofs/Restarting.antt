@@ -3,24 +3,21 @@ use Rattle.std.proofs.Common.{◌≡◌, ℕ, ◌++◌, ◌==◌, Bool, true, fa
 use Rattle.std.specs.Prelude.{slice_get, slice_set}
 use Rattle.std.specs.List.{flat_map}
 use Rattle.smart_base.specs.Lists.{Each, Distinct}
-use Rattle.smart_base.specs.Views.{View, is_view}
+use Rattle.smart_base.specs.Views.{View}
 use Rattle.smart_base.proofs.ViewFacts.{each-weaken, view-distinct}
 use Rattle.smart_statements.specs.Forms.{SignedBy}
 use Rattle.smart_statements.specs.declared.statement.Answer.{Answer}
 use Rattle.smart_statements.specs.declared.entry.NodeEvent.{NodeEvent}
-use Rattle.smart_statements.specs.declared.entry.NodeEvent.TheVariants.{Arrive, Tick, Deliver, Firm}
 use Rattle.smart_service.specs.Services.{Meaning}
-use Rattle.vote_book.specs.Entries.{entry_text}
-use Rattle.vote_book.specs.declared.entry.LogEntry.{LogEntry}
 use Rattle.node_rules.specs.Nodes.{Node, view_of}
-use Rattle.node_rules.specs.Steps.{Outcome, step_of, leaving, outset}
-use Rattle.node_rules.specs.Reopening.{reopened, entries_in}
+use Rattle.node_rules.specs.Steps.{Outcome, step_of, leaving}
+use Rattle.node_rules.specs.Deliveries.{Segment, delivery_in, installed_in, segment_after, segment_with}
 use Rattle.node_rules.specs.declared.node.Why.{Why}
 use Rattle.node_rules.specs.declared.node.Fired.{Fired}
 use Rattle.node_rules.specs.declared.node.Fired.TheVariants as fires
-use Rattle.world_rules.specs.Secrets.{group_secret, period}
+use Rattle.world_rules.specs.Secrets.{group_secret}
 use Rattle.world_rules.specs.Clients.{heard}
-use Rattle.world_rules.specs.Worlds.{course_of, Host, World, posts, told_drop, told_fired, told_heard, host_after, host_crashed, host_resumed, stepped, hearing, begun, hosts_from}
+use Rattle.world_rules.specs.Worlds.{course_of, Host, World, posts, segment_of, told_drop, told_fired, told_heard, host_after, host_crashed, host_resumed, stepped, hearing, begun, hosts_from, parts_held}
 use Rattle.world_rules.specs.Plays.{line_played, rested, world_after, lines_told}
 use Rattle.client_quorum.specs.declared.client.Client.{Client}
 use Rattle.client_quorum.specs.declared.client.Heard.{Heard}
@@ -29,18 +26,17 @@ use Rattle.world_rules.specs.declared.line.Line.{Line}
 use Rattle.world_rules.specs.declared.line.OutLine.{OutLine}
 use Rattle.world_rules.specs.declared.line.OutLine.TheVariants as outs
 use Rattle.world_rules.specs.declared.message.Sent.{Sent}
-use Rattle.world_laws.specs.Promises.{Restart, restart_of, from_nothing, restarts_with, last_restart, WentOn, HasGoneOn}
+use Rattle.world_laws.specs.Promises.{IsHeader, Restart, restart_of, from_nothing, restarts_with, last_restart, WentOn, HasGoneOn}
 use Rattle.world_laws.proofs.Keeps.{IsAside, IsDown, ask_of, asked_by, by-posts, KeepsLives, lives, live-line_played, signed_by, learned_line, resumed_line, after_call, with_host, entries_left, node_resumed, from_node, from_client, from_script, keeps-sends_all}
 use Rattle.world_laws.proofs.Lists.{each_set, each_get}
-use Rattle.replica_laws.proofs.Longer.{told_firm, longer-step}
-use Rattle.replica_laws.proofs.FitNodes.{IsBrief}
-use Rattle.world_laws.proofs.Lives.{left-restored}
+use Rattle.replica_laws.proofs.Small.{IsBrief}
+use Rattle.world_laws.proofs.Snapshots.{IsRestorable}
 use Rattle.world_laws.proofs.Chosen.{ChosenRight}
-use Rattle.world_laws.proofs.ChosenLives.{named}
-use Rattle.world_laws.proofs.ChosenKept.{chosen-kept, chosen-begun, host-right, resumes-diary}
+use Rattle.world_laws.proofs.Reopens.{from_named}
+use Rattle.world_laws.proofs.ChosenSteps.{restored-step}
+use Rattle.world_laws.proofs.ChosenKept.{chosen-kept, chosen-begun, resumed_count}
 use Rattle.world_laws.proofs.Delivering.{named-step, set_others}
-use Rattle.agreement_laws.proofs.Lists.{each_append}
-use Rattle.std.proofs.lemmas.List.{length-map}
+use Rattle.world_rules.specs.declared.line.Header.{Header}
 
 -- transcripts
 
@@ -58,9 +54,10 @@ still-lines (l ∷ ls) each id r = still-lines ls each.1 id (restarts_with id r 
 
 -- a line aside tells of none
 aside_still : (line : OutLine) → IsAside line → IsStill line
-aside_still (outs.Group members faulty app) aside = λ id r. refl
+aside_still (outs.Group members faulty app period) aside = λ id r. refl
 aside_still (outs.Sent number origin summary) aside = λ id r. refl
 aside_still (outs.Decided member place) aside = λ id r. refl
+aside_still (outs.Installed member place) aside = absurd aside
 aside_still (outs.Delivered member place executed) aside = absurd aside
 aside_still (outs.Promised member number regency) aside = λ id r. refl
 aside_still (outs.Synced member number regency base bound) aside = λ id r. refl
@@ -80,27 +77,66 @@ aside_still (outs.Stands member place number regency) aside = λ id r. refl
 aside_still (outs.Seen client place) aside = λ id r. refl
 aside_still (outs.End lines messages) aside = λ id r. refl
 
--- nor does what a node tells
-fired_still : (member : ℕ) (f : Fired) → Each IsStill (told_fired member f)
-fired_still member (fires.Delivered d) = ((λ id r. refl), tt)
-fired_still member (fires.Adopted s) = ((λ id r. refl), tt)
-fired_still member fires.Joined = tt
-fired_still member (fires.Promised p) = ((λ id r. refl), tt)
-fired_still member fires.Led = tt
-fired_still member fires.Proposed = tt
-fired_still member fires.Wrote = tt
-fired_still member fires.Accepted = tt
-fired_still member (fires.Decided place) = ((λ id r. refl), tt)
-fired_still member fires.Timed = tt
-fired_still member fires.Answered = tt
+-- what a member tells of an event that a rule reported: an installation's place is what it goes on from, and else nothing changes
+own_fired : (id : ℕ) (r : Restart) (s : Segment) (f : Fired) → s.began ≡ r.place → last_restart id r (told_fired id f) ≡ restart_of (segment_with (installed_in f) (delivery_in f) s).began r.entries
+own_fired id r s (fires.Installed place) same = ap (λ (t : Bool). cond t (restart_of place r.entries) r) (eq-eqb id id refl)
+own_fired id r s fires.Spoiled same = ap (λ (k : ℕ). restart_of k r.entries) (sym same)
+own_fired id r s (fires.Delivered d) same = ap (λ (k : ℕ). restart_of k r.entries) (sym same)
+own_fired id r s (fires.Marked snapshot) same = ap (λ (k : ℕ). restart_of k r.entries) (sym same)
+own_fired id r s (fires.Adopted a) same = ap (λ (k : ℕ). restart_of k r.entries) (sym same)
+own_fired id r s fires.Joined same = ap (λ (k : ℕ). restart_of k r.entries) (sym same)
+own_fired id r s (fires.Promised p) same = ap (λ (k : ℕ). restart_of k r.entries) (sym same)
+own_fired id r s fires.Led same = ap (λ (k : ℕ). restart_of k r.entries) (sym same)
+own_fired id r s fires.Proposed same = ap (λ (k : ℕ). restart_of k r.entries) (sym same)
+own_fired id r s fires.Wrote same = ap (λ (k : ℕ). restart_of k r.entries) (sym same)
+own_fired id r s fires.Accepted same = ap (λ (k : ℕ). restart_of k r.entries) (sym same)
+own_fired id r s (fires.Decided place) same = ap (λ (k : ℕ). restart_of k r.entries) (sym same)
+own_fired id r s fires.Timed same = ap (λ (k : ℕ). restart_of k r.entries) (sym same)
+own_fired id r s fires.Answered same = ap (λ (k : ℕ). restart_of k r.entries) (sym same)
 
-all_fired_still : (member : ℕ) (fired : List Fired) → Each IsStill (flat_map (told_fired member) fired)
-all_fired_still member [] = tt
-all_fired_still member (f ∷ fs) = each_append IsStill (told_fired member f) (flat_map (told_fired member) fs) (fired_still member f) (all_fired_still member fs)
+own_all : (id : ℕ) (r : Restart) (s : Segment) (fired : List Fired) → s.began ≡ r.place → last_restart id r (flat_map (told_fired id) fired) ≡ restart_of (segment_after s fired).began r.entries
+unfolding segment_after
+own_all id r s [] same = ap (λ (k : ℕ). restart_of k r.entries) (sym same)
+own_all id r s (f ∷ fs) same =
+    let next : Segment = segment_with (installed_in f) (delivery_in f) s in
+    last-append id r (told_fired id f) (flat_map (told_fired id) fs)
+    ∙ (ap (λ (x : Restart). last_restart id x (flat_map (told_fired id) fs)) (own_fired id r s f same) ∙ own_all id (restart_of next.began r.entries) next fs refl)
 
-outcome_still : (member : ℕ) (why : Option Why) (fired : List Fired) → Each IsStill (told_drop member why ++ flat_map (told_fired member) fired)
-outcome_still member None fired = all_fired_still member fired
-outcome_still member (Some why) fired = ((λ id r. refl), all_fired_still member fired)
+own_outcome : (id : ℕ) (r : Restart) (s : Segment) (why : Option Why) (fired : List Fired) → s.began ≡ r.place
+    → last_restart id r (told_drop id why ++ flat_map (told_fired id) fired) ≡ restart_of (segment_after s fired).began r.entries
+own_outcome id r s None fired same = own_all id r s fired same
+own_outcome id r s (Some why) fired same = own_all id r s fired same
+
+-- it tells nothing of others
+other_fired : (id member : ℕ) (r : Restart) (f : Fired) → (id ≡ member → ⊥) → last_restart id r (told_fired member f) ≡ r
+other_fired id member r (fires.Installed place) differ = by (member == id) refl
+  where
+    by : (t : Bool) → (member == id) ≡ t → cond t (restart_of place r.entries) r ≡ r
+    by true is = absurd (differ (sym (eqb-true member id is)))
+    by false is = refl
+other_fired id member r fires.Spoiled differ = refl
+other_fired id member r (fires.Delivered d) differ = refl
+other_fired id member r (fires.Marked snapshot) differ = refl
+other_fired id member r (fires.Adopted a) differ = refl
+other_fired id member r fires.Joined differ = refl
+other_fired id member r (fires.Promised p) differ = refl
+other_fired id member r fires.Led differ = refl
+other_fired id member r fires.Proposed differ = refl
+other_fired id member r fires.Wrote differ = refl
+other_fired id member r fires.Accepted differ = refl
+other_fired id member r (fires.Decided place) differ = refl
+other_fired id member r fires.Timed differ = refl
+other_fired id member r fires.Answered differ = refl
+
+other_all : (id member : ℕ) (r : Restart) (fired : List Fired) → (id ≡ member → ⊥) → last_restart id r (flat_map (told_fired member) fired) ≡ r
+other_all id member r [] differ = refl
+other_all id member r (f ∷ fs) differ =
+    last-append id r (told_fired member f) (flat_map (told_fired member) fs)
+    ∙ (ap (λ (x : Restart). last_restart id x (flat_map (told_fired member) fs)) (other_fired id member r f differ) ∙ other_all id member r fs differ)
+
+other_outcome : (id member : ℕ) (r : Restart) (why : Option Why) (fired : List Fired) → (id ≡ member → ⊥) → last_restart id r (told_drop member why ++ flat_map (told_fired member) fired) ≡ r
+other_outcome id member r None fired differ = other_all id member r fired differ
+other_outcome id member r (Some why) fired differ = other_all id member r fired differ
 
 -- nor what a client tells of a reply that it hears
 heard_still : (client : ℕ) (h : Heard) → IsStill (told_heard client h)
@@ -146,26 +182,26 @@ from-posts {S = S} before w s is =
 
 -- a node's step
 
--- of a node stays restored what was
-restored-step : {S : Type 0} (m : Meaning S) (n : Node S) (event : NodeEvent) → (step_of m n event).node.restored ≡ n.restored
-restored-step {S} m n event = (longer-step m n event).restored_is ∙ told n event
-  where
-    told : (x : Node S) (e : NodeEvent) → (told_firm x e).restored ≡ x.restored
-    told x (Arrive bytes) = refl
-    told x Tick = refl
-    told x Deliver = refl
-    told x (Firm count) = refl
-
-from-stepped : {S : Type 0} (m : Meaning S) (before : ℕ → Restart) (w : World S) (i : ℕ) (h : Host S) (event : NodeEvent) → slice_get w.hosts i ≡ Some h → AllFrom before w
+from-stepped : {S : Type 0} (m : Meaning S) (before : ℕ → Restart) (w : World S) (i : ℕ) (h : Host S) (event : NodeEvent) → slice_get w.hosts i ≡ Some h → ChosenRight m w → AllFrom before w
     → AllFrom before (stepped (course_of m) w i h (step_of m h.node event))
 unfolding stepped
-from-stepped {S = S} m before w i h event at is =
+from-stepped {S = S} m before w i h event at r is =
     let o : Outcome S = step_of m h.node event in
     let h' : Host S = host_after (course_of m) h o in
     let lines : List OutLine = told_drop h.node.id o.dropped ++ flat_map (told_fired h.node.id) o.fired in
-    let set : AllFrom before (with_host w i h') = from-set before w i h h' at (named-step m h.node event) refl (restored-step m h.node event) is in
+    let told : List OutLine = w.told ++ lines in
+    let last : ℕ → Restart = λ id. last_restart id (before id) w.told in
+    let name : h'.node.id ≡ h.node.id = named-step m h.node event in
     keeps-sends_all (λ (v : World S). AllFrom before v) h.node.id (view_of o.node) (λ v held all. from-posts before v (from_node h.node.id (view_of o.node) held) all) _ (leaving o.node.firm o.node.held)
-    (record { hosts = all_still before w.told lines (slice_set w.hosts i h') (outcome_still h.node.id o.dropped o.fired) set.hosts })
+    (record {
+      hosts = set_others (λ (g : Host S). HostFrom before w.told g) (λ (g : Host S). HostFrom before told g) w.hosts i h h' (subst Distinct (sym r.1.ids) (view-distinct w.view r.1.viewed)) at
+          (λ g differ own. subst (λ (x : Restart). WentOn x g)
+          (sym (last-append g.node.id (before g.node.id) w.told lines ∙ other_outcome g.node.id h.node.id (last g.node.id) o.dropped o.fired differ)) own)
+          (λ own. subst (λ (id : ℕ). WentOn (last_restart id (before id) told) h') (sym name)
+          (subst (λ (x : Restart). WentOn x h')
+          (sym (last-append h.node.id (before h.node.id) w.told lines ∙ own_outcome h.node.id (last h.node.id) (segment_of h) o.dropped o.fired own.place))
+          (record { place = refl; entries = restored-step m h.node event ∙ own.entries }))) is.hosts;
+    })
 
 -- a client hears
 
@@ -174,19 +210,6 @@ unfolding hearing
 from-hearing before w i c a h is = record { hosts = all_still before w.told (told_heard c.id h ∷ []) w.hosts (heard_still c.id h, tt) is.hosts }
 
 -- a node goes on
-
--- all that it takes back is restored
-restored-reopened : {S : Type 0} (m : Meaning S) (secret : List ℕ) (id : ℕ) (view : View) (period : ℕ) (es : List LogEntry) → (reopened m (outset m secret id view period) es).restored ≡ length es
-unfolding reopened
-restored-reopened m secret id view period [] = refl
-restored-reopened m secret id view period (e ∷ es) = refl
-
--- as many as its devices hold
-restored-resumed : {S : Type 0} (m : Meaning S) (w : World S) (i : ℕ) (h : Host S) → slice_get w.hosts i ≡ Some h → h.up ≡ false → ChosenRight m w → (node_resumed (course_of m) w h).restored ≡ length (entries_left h)
-restored-resumed m w i h at down r =
-    restored-reopened m group_secret h.node.id w.view period (entries_in (entries_left h))
-    ∙ (ap (λ (es : List LogEntry). length es) (resumes-diary m w i h at down r)
-    ∙ (sym (length-map h.life.diary entry_text) ∙ sym (ap (λ (bs : List (List ℕ)). length bs) (left-restored h ((host-right m w i h at r).lasts.down down)))))
 
 -- what its line tells of others, and of itself
 restart_other : (id member place entries : ℕ) (r : Restart) → (id ≡ member → ⊥) → restarts_with id r (outs.Restarted member place entries) ≡ r
@@ -199,14 +222,14 @@ restart_other id member place entries r differ = by (member == id) refl
 restart_own : (id place entries : ℕ) (r : Restart) → restarts_with id r (outs.Restarted id place entries) ≡ restart_of place entries
 restart_own id place entries r = ap (λ (t : Bool). cond t (restart_of place entries) r) (eq-eqb id id refl)
 
-from-resumed : {S : Type 0} (m : Meaning S) (before : ℕ → Restart) (w : World S) (i : ℕ) (h : Host S) → IsDown w h → slice_get w.hosts i ≡ Some h → ChosenRight m w → AllFrom before w
+from-resumed : {S : Type 0} (m : Meaning S) → IsRestorable m → (before : ℕ → Restart) (w : World S) (i : ℕ) (h : Host S) → IsDown w h → slice_get w.hosts i ≡ Some h → ChosenRight m w → AllFrom before w
     → Each (HostFrom before (w.told ++ resumed_line (course_of m) w h ∷ [])) (slice_set w.hosts i (host_resumed h (node_resumed (course_of m) w h)))
-from-resumed {S = S} m before w i h down at r is =
+from-resumed {S = S} m service before w i h down at r is =
     let n : Node S = node_resumed (course_of m) w h in
     let h' : Host S = host_resumed h n in
     let line : OutLine = resumed_line (course_of m) w h in
     let told : List OutLine = w.told ++ line ∷ [] in
-    let name : n.id ≡ h.node.id = (named m group_secret h.node.id w.view period (entries_in (entries_left h))).name in
+    let name : n.id ≡ h.node.id = from_named m group_secret h.node.id w.view w.period (parts_held h) in
     let from : Restart = restart_of n.replica.place (length (entries_left h)) in
     let last : last_restart h.node.id (before h.node.id) told ≡ from =
     last-append h.node.id (before h.node.id) w.told (line ∷ []) ∙ restart_own h.node.id n.replica.place (length (entries_left h)) (last_restart h.node.id (before h.node.id) w.told) in
@@ -214,19 +237,19 @@ from-resumed {S = S} m before w i h down at r is =
     (λ g differ own. subst (λ (x : Restart). WentOn x g)
     (sym (last-append g.node.id (before g.node.id) w.told (line ∷ []) ∙ restart_other g.node.id h.node.id n.replica.place (length (entries_left h)) (last_restart g.node.id (before g.node.id) w.told) differ)) own)
     (λ own. subst (λ (id : ℕ). WentOn (last_restart id (before id) told) h') (sym name)
-    (subst (λ (x : Restart). WentOn x h') (sym last) (record { place = refl; entries = restored-resumed m w i h at down.0 r }))) is.hosts
+    (subst (λ (x : Restart). WentOn x h') (sym last) (record { place = refl; entries = resumed_count m service w i h down.0 at r }))) is.hosts
 
 -- the list is right, and hosts have gone on from what was told
 abbrev GoingOn : {S : Type 0} → Meaning S → (ℕ → Restart) → World S → Type 0
 GoingOn m before w = ChosenRight m w × AllFrom before w
 
 -- each event keeps that
-keeps-restarts : {S : Type 0} (m : Meaning S) → IsBrief m → (before : ℕ → Restart) → KeepsLives (course_of m) (GoingOn m before)
-keeps-restarts {S = S} m brief before =
-    let k : KeepsLives (course_of m) (ChosenRight m) = lives (course_of m) (ChosenRight m) (chosen-kept m brief) in
+keeps-restarts : {S : Type 0} (m : Meaning S) → IsBrief m → IsRestorable m → (before : ℕ → Restart) → KeepsLives (course_of m) (GoingOn m before)
+keeps-restarts {S = S} m brief service before =
+    let k : KeepsLives (course_of m) (ChosenRight m) = lives (course_of m) (ChosenRight m) (chosen-kept m brief service) in
     record {
       live = record {
-        event = λ w i h event on up at may is. (k.live.event w i h event on up at may is.0, from-stepped m before w i h event at is.1);
+        event = λ w i h event on up at may is. (k.live.event w i h event on up at may is.0, from-stepped m before w i h event at is.0 is.1);
         disk = λ w i h on up at is. (k.live.disk w i h on up at is.0, from-set before w i h (after_call (course_of m) h) at refl refl refl is.1);
         hear = λ w i c x a on at has read is. (k.live.hear w i c x a on at has read is.0, from-hearing before w i c a (heard w.view c a) is.1);
         ask = λ w i c op on at free few brief is. (
@@ -238,32 +261,33 @@ keeps-restarts {S = S} m brief before =
         inject = λ w x on read fine is. (k.live.inject w x on read fine is.0, from-posts before w (from_script x) is.1);
         declare = λ w faulty rogue ending on how is. (k.live.declare w faulty rogue ending on how is.0, record { hosts = is.1.hosts });
         mark = λ w s on at is. (k.live.mark w s on at is.0, record { hosts = is.1.hosts });
+        meet = λ w texts on is. (k.live.meet w texts on is.0, record { hosts = is.1.hosts });
         tell = λ w line aside is. (k.live.tell w line aside is.0, record { hosts = all_still before w.told (line ∷ []) w.hosts (aside_still line aside, tt) is.1.hosts });
       };
       crash = λ w i h left on up at may is. (k.crash w i h left on up at may is.0, from-set before w i h (host_crashed (course_of m) h left) at refl refl refl is.1);
-      resume = λ w i h on down at is. (k.resume w i h on down at is.0, record { hosts = from-resumed m before w i h down at is.0 is.1 });
+      resume = λ w i h on down at is. (k.resume w i h on down at is.0, record { hosts = from-resumed m service before w i h down at is.0 is.1 });
     }
 
 -- behind lines
 
-after-restarts : {S : Type 0} (m : Meaning S) → IsBrief m → (before : ℕ → Restart) (w : World S) (ls : List Line) → ChosenRight m w → w.told ≡ [] → Each (λ h. WentOn (before h.node.id) h) w.hosts
+after-restarts : {S : Type 0} (m : Meaning S) → IsBrief m → IsRestorable m → (before : ℕ → Restart) (w : World S) (ls : List Line) → ChosenRight m w → w.told ≡ [] → Each (λ h. WentOn (before h.node.id) h) w.hosts
     → Each (λ h. WentOn (last_restart h.node.id (before h.node.id) (lines_told (course_of m) w ls)) h) (world_after (course_of m) w ls).hosts
-after-restarts m brief before w [] right none each = each
-after-restarts {S = S} m brief before w (l ∷ ls) right none each =
+after-restarts m brief service before w [] right none each = each
+after-restarts {S = S} m brief service before w (l ∷ ls) right none each =
     let played : World S = line_played (course_of m) w l in
     let later : List OutLine = lines_told (course_of m) (rested played) ls in
     let begins : AllFrom before w = record { hosts = subst (λ (told : List OutLine). Each (λ (h : Host S). HostFrom before told h) w.hosts) (sym none) each } in
-    let is : GoingOn m before played = live-line_played (course_of m) (λ (v : World S). GoingOn m before v) (keeps-restarts m brief before) w l (right, begins) in
-    let rest = after-restarts m brief (λ id. last_restart id (before id) played.told) (rested played) ls ((chosen-kept m brief).kept.same played played.mark [] is.0) refl is.1.hosts in
+    let is : GoingOn m before played = live-line_played (course_of m) (λ (v : World S). GoingOn m before v) (keeps-restarts m brief service before) w l (right, begins) in
+    let rest = after-restarts m brief service (λ id. last_restart id (before id) played.told) (rested played) ls ((chosen-kept m brief service).kept.same played played.mark [] is.0) refl is.1.hosts in
     each-weaken (λ (h : Host S). WentOn (last_restart h.node.id (last_restart h.node.id (before h.node.id) played.told) later) h) (λ (h : Host S). WentOn (last_restart h.node.id (before h.node.id) (played.told ++ later)) h)
     (λ h from. subst (λ (r : Restart). WentOn r h) (sym (last-append h.node.id (before h.node.id) played.told later)) from) (world_after (course_of m) (rested played) ls).hosts rest
 
 -- each host begins from nothing
-none_gone : {S : Type 0} (m : Meaning S) (view : View) (members : List ℕ) → Each (λ h. WentOn from_nothing h) (hosts_from m view members)
-none_gone m view [] = tt
-none_gone m view (id ∷ ids) = (record { place = refl; entries = refl }, none_gone m view ids)
+none_gone : {S : Type 0} (m : Meaning S) (view : View) (period : ℕ) (members : List ℕ) → Each (λ h. WentOn from_nothing h) (hosts_from m view period members)
+none_gone m view period [] = tt
+none_gone m view period (id ∷ ids) = (record { place = refl; entries = refl }, none_gone m view period ids)
 
 -- after any lines of any script each node has gone on from what the transcript's last line of its restart tells
-pub restarts-told : {S : Type 0} (m : Meaning S) → IsBrief m → (view : View) (ls : List Line) → is_view view ≡ true
-    → Each (HasGoneOn (lines_told (course_of m) (begun m view) ls)) (world_after (course_of m) (begun m view) ls).hosts
-restarts-told m brief view ls is = after-restarts m brief (λ id. from_nothing) (begun m view) ls (chosen-begun m view is) refl (none_gone m view view.members)
+pub restarts-told : {S : Type 0} (m : Meaning S) → IsBrief m → IsRestorable m → (g : Header) (ls : List Line) → IsHeader g
+    → Each (HasGoneOn (lines_told (course_of m) (begun m g) ls)) (world_after (course_of m) (begun m g) ls).hosts
+restarts-told m brief service g ls is = after-restarts m brief service (λ id. from_nothing) (begun m g) ls (chosen-begun m g is) refl (none_gone m g.view g.period g.view.members)

@@ -26,6 +26,7 @@ use Rattle.world_laws.proofs.Keeps.{aside_beside, IsBeside, outcome-beside, sign
 use Rattle.world_laws.proofs.Hearing.{Accepts, accepts_waiting}
 use Rattle.world_laws.proofs.Asking.{ClientRight, ClientsRight, keeps-right, rested-right, each_fresh, right-begun}
 use Rattle.world_rules.specs.declared.message.Sent.{Sent}
+use Rattle.world_rules.specs.declared.line.Header.{Header}
 
 -- transcripts
 
@@ -36,9 +37,10 @@ known-append i (x ∷ xs) ys = omega (arith, known-append i xs ys)
 
 -- a line beside tells a client no place
 none_told : (i : ℕ) (line : OutLine) → IsBeside line → place_told i line ≡ 0
-none_told i (outs.Group members faulty app) beside = refl
+none_told i (outs.Group members faulty app period) beside = refl
 none_told i (outs.Sent number origin summary) beside = refl
 none_told i (outs.Decided member place) beside = refl
+none_told i (outs.Installed member place) beside = refl
 none_told i (outs.Delivered member place executed) beside = refl
 none_told i (outs.Promised member number regency) beside = refl
 none_told i (outs.Synced member number regency base bound) beside = refl
@@ -187,6 +189,7 @@ keeps-knowing course before count =
         inject = λ w x on read fine is. (k.live.inject w x on read fine is.0, know-posts before count w (from_script x) is.1);
         declare = λ w faulty rogue ending on how is. (k.live.declare w faulty rogue ending on how is.0, record { each = is.1.each; there = is.1.there });
         mark = λ w s on at is. (k.live.mark w s on at is.0, record { each = is.1.each; there = is.1.there });
+        meet = λ w texts on is. (k.live.meet w texts on is.0, record { each = is.1.each; there = is.1.there });
         tell = λ w line aside is. (k.live.tell w line aside is.0, record { each = know-beside before w.clients w.told (line ∷ []) (aside_beside line aside, tt) is.1.each; there = is.1.there });
       };
       crash = λ w i h left on up at may is. (k.crash w i h left on up at may is.0, record { each = is.1.each; there = is.1.there });
@@ -231,8 +234,8 @@ fresh-count zero i = refl
 fresh-count (suc count) i = ap suc (fresh-count count (i + 1))
 
 -- clients begin having seen nothing
-seen-begun : {S : Type 0} (m : Meaning S) (view : View) → Seen (λ i. 0) 1025 (begun m view)
-seen-begun m view = record { each = each_fresh (λ i c. c.seen ≡ 0) 1025 0 (λ k. refl); there = fresh-count 1025 0 }
+seen-begun : {S : Type 0} (m : Meaning S) (g : Header) → Seen (λ i. 0) 1025 (begun m g)
+seen-begun m g = record { each = each_fresh (λ i c. c.seen ≡ 0) 1025 0 (λ k. refl); there = fresh-count 1025 0 }
 
 -- what each client at an index has seen
 seen-at : (known : ℕ → ℕ) (clients : List Client) (i : ℕ) → EachAt (λ j (c : Client). c.seen ≡ known j) clients → i < length clients → option_map (λ (c : Client). c.seen) (slice_get clients i) ≡ Some (known i)
@@ -241,17 +244,17 @@ seen-at known (c ∷ cs) zero each within = ap (λ (n : ℕ). Some n) each.0
 seen-at known (c ∷ cs) (suc i) each within = seen-at (λ j. known (suc j)) cs i each.1 (omega (arith, within))
 
 -- after any lines of any script, each client has seen what the transcript tells that it knows
-pub seen-told : {S : Type 0} (m : Meaning S) (course : Course S) (view : View) (ls : List Line)
-    → EachAt (λ i c. c.seen ≡ known_by i (lines_told course (begun m view) ls)) (world_after course (begun m view) ls).clients
-seen-told {S = S} m course view ls =
-    let after : World S = world_after course (begun m view) ls in
-    each_at_weaker (λ i c. c.seen ≡ max 0 (known_by i (lines_told course (begun m view) ls))) (λ i c. c.seen ≡ known_by i (lines_told course (begun m view) ls))
-    (λ i c seen. omega (arith, seen)) after.clients (seen-after course (λ i. 0) 1025 (begun m view) ls (right-begun m view) refl (seen-begun m view)).each
+pub seen-told : {S : Type 0} (m : Meaning S) (course : Course S) (g : Header) (ls : List Line)
+    → EachAt (λ i c. c.seen ≡ known_by i (lines_told course (begun m g) ls)) (world_after course (begun m g) ls).clients
+seen-told {S = S} m course g ls =
+    let after : World S = world_after course (begun m g) ls in
+    each_at_weaker (λ i c. c.seen ≡ max 0 (known_by i (lines_told course (begun m g) ls))) (λ i c. c.seen ≡ known_by i (lines_told course (begun m g) ls))
+    (λ i c seen. omega (arith, seen)) after.clients (seen-after course (λ i. 0) 1025 (begun m g) ls (right-begun m g) refl (seen-begun m g)).each
 
 -- and so has the client of a number
-pub clients_know : {S : Type 0} (m : Meaning S) (course : Course S) (view : View) (ls : List Line) (client : ℕ) → client ≤ 1024
-    → seen_by (world_after course (begun m view) ls) client ≡ Some (known_by client (lines_told course (begun m view) ls))
-clients_know {S = S} m course view ls client low =
-    let after : World S = world_after course (begun m view) ls in
-    let is : Seen (λ i. max 0 (known_by i (lines_told course (begun m view) ls))) 1025 after = seen-after course (λ i. 0) 1025 (begun m view) ls (right-begun m view) refl (seen-begun m view) in
-    seen-at (λ i. max 0 (known_by i (lines_told course (begun m view) ls))) after.clients client is.each (omega (arith, low, is.there)) ∙ ap (λ (n : ℕ). Some n) (omega arith)
+pub clients_know : {S : Type 0} (m : Meaning S) (course : Course S) (g : Header) (ls : List Line) (client : ℕ) → client ≤ 1024
+    → seen_by (world_after course (begun m g) ls) client ≡ Some (known_by client (lines_told course (begun m g) ls))
+clients_know {S = S} m course g ls client low =
+    let after : World S = world_after course (begun m g) ls in
+    let is : Seen (λ i. max 0 (known_by i (lines_told course (begun m g) ls))) 1025 after = seen-after course (λ i. 0) 1025 (begun m g) ls (right-begun m g) refl (seen-begun m g) in
+    seen-at (λ i. max 0 (known_by i (lines_told course (begun m g) ls))) after.clients client is.each (omega (arith, low, is.there)) ∙ ap (λ (n : ℕ). Some n) (omega arith)

@@ -1,5 +1,5 @@
 -- A statement is told by its signer and its bytes, among those that are read.
-use Rattle.std.proofs.Common.{◌≡◌, ⊎_elim, ℕ, Bool, true, false, List, [], ◌∷◌, refl, ap, sym, ◌∙◌, subst, cond, inl, inr, eqb-true, Option, Some, None}
+use Rattle.std.proofs.Common.{◌≡◌, ⊎_elim, ℕ, Bool, true, false, List, [], ◌∷◌, ◌++◌, refl, ap, sym, ◌∙◌, subst, cond, inl, inr, eqb-true, Option, Some, None}
 use Rattle.std.specs.Prelude.{map, filter}
 use Rattle.std.specs.List.{flat_map, AllByRecursion}
 use Rattle.smart_base.specs.Lists.{same_bytes}
@@ -24,10 +24,10 @@ use Rattle.smart_statements.specs.declared.report.Evidence.TheVariants as eviden
 use Rattle.smart_statements.specs.declared.report.LockCertificate.{LockCertificate}
 use Rattle.smart_messages.specs.declared.message.Message.{Message}
 use Rattle.smart_messages.specs.declared.message.Sealed.{Sealed}
-use Rattle.smart_messages.specs.Messages.{FitsContent, batch_in}
-use Rattle.smart_messages.proofs.Messages.{FitsStatement, one_seal, head_fits, batch_in_fits}
+use Rattle.smart_messages.specs.Messages.{FitsContent, batch_in, decision_in}
+use Rattle.smart_messages.proofs.Messages.{FitsStatement, one_seal, own_fits, proof_in_fits, batch_in_fits}
 use Rattle.vote_book.specs.Books.{Among}
-use Rattle.agreement_laws.specs.Statements.{Statement, Asked, Voted, Reported, Synced, Marked, sealed_of, signer_of, verifies, within, in_report, parts_of_evidence, parts_of_lock, requests_of, head, said, statements}
+use Rattle.agreement_laws.specs.Statements.{Statement, Asked, Voted, Reported, Synced, Marked, sealed_of, signer_of, verifies, within, in_report, parts_of_evidence, parts_of_lock, requests_of, own, proof_in, said, statements}
 use Rattle.agreement_laws.proofs.Lists.{among_either, among_filtered, among_filter, among_flat, given, within_one}
 use Rattle.world_rules.specs.Secrets.{group_secret}
 use Rattle.world_rules.specs.Premises.{claim_of, bytes_stated, claims, same_party, same_claim}
@@ -178,8 +178,11 @@ there_fits (Some batch) x fits there = batch_fits batch x fits there
 
 -- what a message says
 said_fits : (m : Message) (s : Statement) → FitsContent m → Among s (said m) → FitsStatement s
-said_fits m s fits (inl is) = fits_as s (head m) is (head_fits m fits)
-said_fits m s fits (inr there) = there_fits (batch_in m) s (batch_in_fits m fits) there
+said_fits m s fits there =
+    ⊎_elim (λ first. all_among FitsStatement (own m) s (own_fits m fits) first)
+    (λ rest. ⊎_elim (λ shown. all_among FitsStatement (proof_in (decision_in m)) s (proof_in_fits m fits) shown) (λ asked. there_fits (batch_in m) s (batch_in_fits m fits) asked)
+    (among_either s (proof_in (decision_in m)) (requests_of (batch_in m)) rest))
+    (among_either s (own m) (proof_in (decision_in m) ++ requests_of (batch_in m)) there)
 
 -- each statement of a message that is read is proper
 pub message_proper : (m : Message) (x : Statement) → FitsContent m → Among x (statements group_secret m) → Proper x

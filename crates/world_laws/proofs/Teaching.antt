@@ -1,7 +1,6 @@
 -- A client that is told what another knows, knows it.
 use Rattle.std.proofs.Common.{◌≡◌, ℕ, zero, suc, ◌+◌, ◌≤◌, ◌++◌, Bool, true, false, List, [], ◌∷◌, refl, ap, ◌∙◌, sym, Option, Some, None, subst, take, max, add-one}
 use Rattle.std.specs.Prelude.{slice_get, option_map}
-use Rattle.smart_base.specs.Views.{View}
 use Rattle.smart_service.specs.Services.{Meaning}
 use Rattle.client_quorum.specs.Clients.{learning}
 use Rattle.client_quorum.specs.declared.client.Client.{Client}
@@ -18,6 +17,7 @@ use Rattle.world_laws.proofs.Declared.{is_over}
 use Rattle.world_laws.proofs.Grows.{world_after-append}
 use Rattle.world_laws.proofs.Seen.{id_at, clients_know}
 use Rattle.agreement_laws.proofs.Lists.{some_equal, either_by}
+use Rattle.world_rules.specs.declared.line.Header.{Header}
 
 -- a client learns
 
@@ -48,33 +48,33 @@ taught-tells {S = S} w from to a b on right honest known other =
 
 -- one line more
 
-take-next : (ls : List Line) (k : ℕ) (line : Line) → slice_get ls k ≡ Some line → take (suc k) ls ≡ take k ls ++ line ∷ []
+pub take-next : (ls : List Line) (k : ℕ) (line : Line) → slice_get ls k ≡ Some line → take (suc k) ls ≡ take k ls ++ line ∷ []
 take-next [] k line at = absurd (cc)
 take-next (l ∷ ls) zero line at = ap (λ (x : Line). x ∷ []) (some_equal l line at)
 take-next (l ∷ ls) (suc k) line at = ap (λ (xs : List Line). l ∷ xs) (take-next ls k line at)
 
-played-tell : {S : Type 0} (m : Meaning S) (view : View) (ls : List Line) (k from to : ℕ) → slice_get ls k ≡ Some (lines.Tell from to)
-    → world_after (course_of m) (begun m view) (take (suc k) ls) ≡ rested (tells from to (world_at m view ls k))
+played-tell : {S : Type 0} (m : Meaning S) (g : Header) (ls : List Line) (k from to : ℕ) → slice_get ls k ≡ Some (lines.Tell from to)
+    → world_after (course_of m) (begun m g) (take (suc k) ls) ≡ rested (tells from to (world_at m g ls k))
 unfolding line_played
-played-tell m view ls k from to at =
-    ap (λ (xs : List Line). world_after (course_of m) (begun m view) xs) (take-next ls k (lines.Tell from to) at) ∙ world_after-append (course_of m) (begun m view) (take k ls) (lines.Tell from to ∷ [])
+played-tell m g ls k from to at =
+    ap (λ (xs : List Line). world_after (course_of m) (begun m g) xs) (take-next ls k (lines.Tell from to) at) ∙ world_after-append (course_of m) (begun m g) (take k ls) (lines.Tell from to ∷ [])
 
-taught-next : {S : Type 0} (m : Meaning S) (view : View) (ls : List Line) (k from to : ℕ) → slice_get ls k ≡ Some (lines.Tell from to) → (world_at m view ls k).ending ≡ None
-    → is_among (world_at m view ls k).rogue from ≡ false → from ≤ 1024 → to ≤ 1024
-    → known_by to (lines_told (course_of m) (begun m view) (take (suc k) ls))
-    ≡ max (known_by to (lines_told (course_of m) (begun m view) (take k ls))) (known_by from (lines_told (course_of m) (begun m view) (take k ls)))
-taught-next {S = S} m view ls k from to at on honest low below =
-    let w : World S = world_at m view ls k in
-    let a : ℕ = known_by from (lines_told (course_of m) (begun m view) (take k ls)) in
-    let b : ℕ = known_by to (lines_told (course_of m) (begun m view) (take k ls)) in
-    let c : ℕ = known_by to (lines_told (course_of m) (begun m view) (take (suc k) ls)) in
-    let after : seen_by (world_after (course_of m) (begun m view) (take (suc k) ls)) to ≡ Some c = clients_know m (course_of m) view (take (suc k) ls) to below in
+taught-next : {S : Type 0} (m : Meaning S) (g : Header) (ls : List Line) (k from to : ℕ) → slice_get ls k ≡ Some (lines.Tell from to) → (world_at m g ls k).ending ≡ None
+    → is_among (world_at m g ls k).rogue from ≡ false → from ≤ 1024 → to ≤ 1024
+    → known_by to (lines_told (course_of m) (begun m g) (take (suc k) ls))
+    ≡ max (known_by to (lines_told (course_of m) (begun m g) (take k ls))) (known_by from (lines_told (course_of m) (begun m g) (take k ls)))
+taught-next {S = S} m g ls k from to at on honest low below =
+    let w : World S = world_at m g ls k in
+    let a : ℕ = known_by from (lines_told (course_of m) (begun m g) (take k ls)) in
+    let b : ℕ = known_by to (lines_told (course_of m) (begun m g) (take k ls)) in
+    let c : ℕ = known_by to (lines_told (course_of m) (begun m g) (take (suc k) ls)) in
+    let after : seen_by (world_after (course_of m) (begun m g) (take (suc k) ls)) to ≡ Some c = clients_know m (course_of m) g (take (suc k) ls) to below in
     let now : seen_by (tells from to w) to ≡ Some (max b a) =
-    taught-tells w from to a b on (right-after m (course_of m) view (take k ls)) honest (clients_know m (course_of m) view (take k ls) from low) (clients_know m (course_of m) view (take k ls) to below) in
-    some_equal c (max b a) (sym after ∙ (ap (λ (v : World S). seen_by v to) (played-tell m view ls k from to at) ∙ now))
+    taught-tells w from to a b on (right-after m (course_of m) g (take k ls)) honest (clients_know m (course_of m) g (take k ls) from low) (clients_know m (course_of m) g (take k ls) to below) in
+    some_equal c (max b a) (sym after ∙ (ap (λ (v : World S). seen_by v to) (played-tell m g ls k from to at) ∙ now))
 
 -- each line has that effect
-pub has-taught : {S : Type 0} (m : Meaning S) (view : View) (ls : List Line) (k : ℕ) (line : Line) → slice_get ls k ≡ Some line
-    → HasTaught (world_at m view ls k) (lines_told (course_of m) (begun m view) (take k ls)) (lines_told (course_of m) (begun m view) (take (k + 1) ls)) line
-has-taught m view ls k (lines.Tell from to) at = λ on honest low below. rw add-one (taught-next m view ls k from to at on honest low below)
-has-taught m view ls k line at = tt
+pub has-taught : {S : Type 0} (m : Meaning S) (g : Header) (ls : List Line) (k : ℕ) (line : Line) → slice_get ls k ≡ Some line
+    → HasTaught (world_at m g ls k) (lines_told (course_of m) (begun m g) (take k ls)) (lines_told (course_of m) (begun m g) (take (k + 1) ls)) line
+has-taught m g ls k (lines.Tell from to) at = λ on honest low below. rw add-one (taught-next m g ls k from to at on honest low below)
+has-taught m g ls k line at = tt

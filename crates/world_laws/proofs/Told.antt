@@ -35,6 +35,7 @@ use Rattle.world_laws.proofs.Accepted.{AcceptedTold, IsTold, line_accepted}
 use Rattle.world_laws.proofs.Grows.{view-stays}
 use Rattle.agreement_laws.proofs.Lists.{each_end, each_append}
 use Rattle.smart_base.proofs.ViewFacts.{each-weaken}
+use Rattle.world_rules.specs.declared.line.Header.{Header}
 
 -- a line tells of one of the accepted replies
 abbrev IsOf : List Acceptance → OutLine → Type 0
@@ -144,6 +145,7 @@ keeps-stemming course =
         inject = λ w x on read fine is. (k.live.inject w x on read fine is.0, stems-posts w (from_script x) is.1);
         declare = λ w faulty rogue ending on how is. (k.live.declare w faulty rogue ending on how is.0, record { all = is.1.all });
         mark = λ w s on at is. (k.live.mark w s on at is.0, record { all = is.1.all });
+        meet = λ w texts on is. (k.live.meet w texts on is.0, record { all = is.1.all });
         tell = λ w line aside is. (k.live.tell w line aside is.0, record { all = each_end (Stems w.accepted) w.told line is.1.all (inl (aside_beside line aside)) });
       };
       crash = λ w i h left on up at may is. (k.crash w i h left on up at may is.0, record { all = is.1.all });
@@ -186,6 +188,7 @@ keeps-stems course line =
         inject = λ w x read fine stems. rw accepted-posts stems;
         declare = λ w faulty rogue ending how stems. stems;
         same = λ w mark told stems. stems;
+        meet = λ w texts on stems. stems;
       };
       resume = λ w i h down at stems. stems;
     }
@@ -205,9 +208,10 @@ lines-stem {S = S} course w (l ∷ ls) is =
 
 -- a line that tells of no accepted reply
 beside-answered : {S : Type 0} (m : Meaning S) (view : View) (chosen : List Batch) (line : OutLine) → IsBeside line → IsAnswered m view chosen line
-beside-answered m view chosen (outs.Group members faulty app) beside = tt
+beside-answered m view chosen (outs.Group members faulty app period) beside = tt
 beside-answered m view chosen (outs.Sent number origin summary) beside = tt
 beside-answered m view chosen (outs.Decided member place) beside = tt
+beside-answered m view chosen (outs.Installed member place) beside = tt
 beside-answered m view chosen (outs.Delivered member place executed) beside = tt
 beside-answered m view chosen (outs.Promised member number regency) beside = tt
 beside-answered m view chosen (outs.Synced member number regency base bound) beside = tt
@@ -249,14 +253,14 @@ stems-answered m view chosen accepted told line stems =
     ]
 
 -- where all accepted replies tell executions, each line that tells of one tells the service's answer
-pub lines-answered : {S : Type 0} (m : Meaning S) (view : View) (ls : List Line) → AcceptedTold m (world_after (course_of m) (begun m view) ls)
-    → Each (IsAnswered m view (world_after (course_of m) (begun m view) ls).chosen) (lines_told (course_of m) (begun m view) ls)
-lines-answered {S = S} m view ls told =
-    let after : World S = world_after (course_of m) (begun m view) ls in
-    let same : after.view ≡ view = view-stays m (begun m view) ls in
-    each-weaken (Stems after.accepted) (IsAnswered m view after.chosen)
-    (stems-answered m view after.chosen after.accepted (subst (λ (v : View). Each (IsTold m v after.chosen) after.accepted) same told.all))
-    (lines_told (course_of m) (begun m view) ls) (lines-stem (course_of m) (begun m view) ls (right-begun m view, record { all = tt }))
+pub lines-answered : {S : Type 0} (m : Meaning S) (g : Header) (ls : List Line) → AcceptedTold m (world_after (course_of m) (begun m g) ls)
+    → Each (IsAnswered m g.view (world_after (course_of m) (begun m g) ls).chosen) (lines_told (course_of m) (begun m g) ls)
+lines-answered {S = S} m g ls told =
+    let after : World S = world_after (course_of m) (begun m g) ls in
+    let same : after.view ≡ g.view = view-stays m (begun m g) ls in
+    each-weaken (Stems after.accepted) (IsAnswered m g.view after.chosen)
+    (stems-answered m g.view after.chosen after.accepted (subst (λ (v : View). Each (IsTold m v after.chosen) after.accepted) same told.all))
+    (lines_told (course_of m) (begun m g) ls) (lines-stem (course_of m) (begun m g) ls (right-begun m g, record { all = tt }))
 
 -- a transcript tells of all that was accepted, and of nothing else
 
@@ -266,9 +270,10 @@ told-parts xs ys = filter-append is_acceptance xs ys
 
 -- a line beside tells of no accepted reply
 none_accepted : (line : OutLine) → IsBeside line → is_acceptance line ≡ false
-none_accepted (outs.Group members faulty app) beside = refl
+none_accepted (outs.Group members faulty app period) beside = refl
 none_accepted (outs.Sent number origin summary) beside = refl
 none_accepted (outs.Decided member place) beside = refl
+none_accepted (outs.Installed member place) beside = refl
 none_accepted (outs.Delivered member place executed) beside = refl
 none_accepted (outs.Promised member number regency) beside = refl
 none_accepted (outs.Synced member number regency base bound) beside = refl
@@ -359,6 +364,7 @@ keeps-all course before =
         inject = λ w x on read fine is. (k.live.inject w x on read fine is.0, all-posts before w (from_script x) is.1);
         declare = λ w faulty rogue ending on how is. (k.live.declare w faulty rogue ending on how is.0, record { all = is.1.all });
         mark = λ w s on at is. (k.live.mark w s on at is.0, record { all = is.1.all });
+        meet = λ w texts on is. (k.live.meet w texts on is.0, record { all = is.1.all });
         tell = λ w line aside is. (k.live.tell w line aside is.0, record { all = is.1.all ∙ sym (all-beside before w.told (line ∷ []) (aside_beside line aside, tt)) });
       };
       crash = λ w i h left on up at may is. (k.crash w i h left on up at may is.0, record { all = is.1.all });
@@ -379,6 +385,6 @@ all-after {S = S} course before w (l ∷ ls) right none is =
     ∙ (append_assoc before first (filter is_acceptance later) ∙ ap (λ (xs : List OutLine). before ++ xs) (sym (told-parts played.told later)))
 
 -- after any lines of any script the transcript tells of each reply that was accepted, once, in order, and of no other
-pub lines-tell_all : {S : Type 0} (m : Meaning S) (view : View) (ls : List Line)
-    → filter is_acceptance (lines_told (course_of m) (begun m view) ls) ≡ map accepted_line (world_after (course_of m) (begun m view) ls).accepted
-lines-tell_all m view ls = sym (all-after (course_of m) [] (begun m view) ls (right-begun m view) refl refl)
+pub lines-tell_all : {S : Type 0} (m : Meaning S) (g : Header) (ls : List Line)
+    → filter is_acceptance (lines_told (course_of m) (begun m g) ls) ≡ map accepted_line (world_after (course_of m) (begun m g) ls).accepted
+lines-tell_all m g ls = sym (all-after (course_of m) [] (begun m g) ls (right-begun m g) refl refl)

@@ -17,13 +17,15 @@ use Rattle.smart_statements.specs.declared.report.Report.{Report}
 use Rattle.smart_statements.specs.declared.report.Evidence.{Evidence}
 use Rattle.smart_statements.specs.declared.report.Evidence.TheVariants as evidence
 use Rattle.smart_statements.specs.declared.report.LockCertificate.{LockCertificate}
-use Rattle.smart_messages.specs.Messages.{batch_in}
-use Rattle.smart_messages.specs.declared.message.Message.TheVariants.{Reply}
+use Rattle.smart_messages.specs.Messages.{batch_in, decision_in}
+use Rattle.smart_messages.specs.declared.message.Message.TheVariants.{Ask, Propose, Vote, Reply}
+use Rattle.smart_messages.specs.declared.message.Message.TheVariants as changes
 use Rattle.smart_messages.specs.declared.message.Message.{Message}
+use Rattle.transfer_form.specs.declared.transfer.ProvenBatch.{ProvenBatch}
 use Rattle.vote_book.specs.Books.{Among}
 use Rattle.vote_book.proofs.Tested.{passing}
 use Rattle.node_rules.specs.Steps.{Outcome, leaving}
-use Rattle.agreement_laws.specs.Statements.{Statement, Asked, Voted, Reported, Synced, Marked, Replied, signer_of, within, in_report, parts_of_evidence, parts_of_lock, requests_of, head, said}
+use Rattle.agreement_laws.specs.Statements.{Statement, Asked, Voted, Reported, Synced, Marked, Replied, signer_of, within, in_report, parts_of_evidence, parts_of_lock, requests_of, own, proof_in, said}
 use Rattle.agreement_laws.proofs.Lists.{among_either, each_among, given, within_one, each_end}
 use Rattle.world_rules.specs.Premises.{Claim, claim_of, claims, same_claim, is_among, is_from, is_stated, is_excused, is_forgery, is_forged}
 use Rattle.world_rules.specs.Worlds.{Course, Host, World, posts, stepped, hearing}
@@ -154,6 +156,7 @@ keeps-unforged course =
                   w.sent is.each;
             };
         same = λ w mark told is. record { each = is.each };
+        meet = λ w texts on is. record { each = is.each };
       };
       resume = λ w i h down at is. record { each = is.each };
     }
@@ -286,18 +289,44 @@ no_requests : (a : SignedBy Answer) (batch : Option Batch) → Among (Replied a)
 no_requests a None there = there
 no_requests a (Some batch) there = no_request a batch there
 
--- a message that is signed as a reply is that reply
-reply_head : (m : Message) (a : SignedBy Answer) → Replied a ≡ head m → m ≡ Reply a
-reply_head (Reply r) a is =
+-- a message that its sender states as a reply is that reply
+reply_own : (m : Message) (a : SignedBy Answer) → Among (Replied a) (own m) → m ≡ Reply a
+reply_own (Ask q) a (inl is) = absurd (cc)
+reply_own (Ask q) a (inr none) = absurd none
+reply_own (Propose p) a (inl is) = absurd (cc)
+reply_own (Propose p) a (inr none) = absurd none
+reply_own (Vote b) a (inl is) = absurd (cc)
+reply_own (Vote b) a (inr none) = absurd none
+reply_own (changes.Stop s) a (inl is) = absurd (cc)
+reply_own (changes.Stop s) a (inr none) = absurd none
+reply_own (changes.StopData r) a (inl is) = absurd (cc)
+reply_own (changes.StopData r) a (inr none) = absurd none
+reply_own (changes.Sync s) a (inl is) = absurd (cc)
+reply_own (changes.Sync s) a (inr none) = absurd none
+reply_own (changes.Decision d) a there = absurd there
+reply_own (Reply r) a (inl is) =
     let named : Replied a ≡ Replied r = is in
     let same : r ≡ a = cc in
     ap (λ (x : SignedBy Answer). Reply x) same
-reply_head _ a is = absurd (cc)
+reply_own (Reply r) a (inr none) = absurd none
+reply_own (changes.Mark m) a (inl is) = absurd (cc)
+reply_own (changes.Mark m) a (inr none) = absurd none
+reply_own (changes.StateAsk s) a there = absurd there
+reply_own (changes.StateOffer o) a there = let found = given Marked o.marks (Replied a) there in let is = found.is in absurd (cc)
+reply_own (changes.StatePart p) a there = absurd there
+
+-- no vote that is shown is a reply
+no_proof : (a : SignedBy Answer) (d : Option ProvenBatch) → Among (Replied a) (proof_in d) → ⊥
+no_proof a None there = there
+no_proof a (Some d) there = let found = given Voted d.accepts (Replied a) there in let is = found.is in cc
 
 -- a message that says a reply is that reply
 reply_said : (m : Message) (a : SignedBy Answer) → Among (Replied a) (said m) → m ≡ Reply a
-reply_said m a (inl is) = reply_head m a is
-reply_said m a (inr there) = absurd (no_requests a (batch_in m) there)
+reply_said m a there =
+    ⊎_elim (λ first. reply_own m a first)
+    (λ rest. ⊎_elim (λ shown. absurd (no_proof a (decision_in m) shown)) (λ asked. absurd (no_requests a (batch_in m) asked))
+    (among_either (Replied a) (proof_in (decision_in m)) (requests_of (batch_in m)) rest))
+    (among_either (Replied a) (own m) (proof_in (decision_in m) ++ requests_of (batch_in m)) there)
 
 pub reply_content : (x : Content) (a : SignedBy Answer) → Among (Replied a) (stated_in x) → x ≡ contents.Message (Reply a)
 reply_content (contents.Message m) a there =

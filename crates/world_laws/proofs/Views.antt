@@ -1,5 +1,5 @@
 -- A step keeps the view that a node is in. INTERIM(views)
-use Rattle.std.proofs.Common.{◌≡◌, false, List, [], ◌∷◌, refl, ap, ◌∙◌, Option, Some, None}
+use Rattle.std.proofs.Common.{◌≡◌, Bool, true, false, cond, List, [], ◌∷◌, refl, ap, ◌∙◌, Option, Some, None, Result, Ok, Err}
 use Rattle.smart_base.specs.Views.{View, present}
 use Rattle.smart_statements.specs.Batches.{Batch}
 use Rattle.smart_statements.specs.declared.entry.NodeEvent.{NodeEvent}
@@ -10,14 +10,20 @@ use Rattle.vote_book.specs.declared.entry.Decision.{Decision}
 use Rattle.replica_rules.specs.Pools.{settled}
 use Rattle.replica_rules.specs.Replicas.{delivered}
 use Rattle.replica_rules.proofs.Places.{views_delivered}
+use Rattle.node_rules.specs.Marks.{mark_place}
 use Rattle.node_rules.specs.Nodes.{Node, view_of, holding}
 use Rattle.node_rules.specs.Arrivals.{noted, kept}
 use Rattle.node_rules.specs.Changes.{adopts, joins, promises, leads, times}
 use Rattle.node_rules.specs.Rules.{reply_of, replying, lines_to_answer, deliver_batch, delivers, proposes, writes, accepts, deciding, decide_batch, decides, answers_again}
 use Rattle.node_rules.specs.Steps.{step_of}
+use Rattle.node_rules.specs.Transfers.{answers_state, plans, install_by, install_fetch, install_replica, installing, installs, is_of_group, spoil}
+use Rattle.state_transfer.specs.Fetches.{finished}
+use Rattle.state_transfer.specs.declared.fetch.Fetch.{Fetch}
+use Rattle.state_transfer.specs.declared.fetch.Spoiled.{Spoiled}
+use Rattle.node_laws.proofs.Installing.{views_equal}
 use Rattle.node_rules.specs.declared.node.Target.TheVariants as targets
 use Rattle.node_rules.proofs.Rulewise.{KeptByRules, KeptInSteps, free-event, keeps_step}
-use Rattle.replica_laws.proofs.Leaves.{Leaves, leaves-adopts, leaves-joins, leaves-promises, leaves-leads, leaves-proposes, leaves-writes, leaves-accepts, leaves-times, leaves-answers_again, leaves-noted, leaves-kept}
+use Rattle.replica_laws.proofs.Leaves.{Leaves, leaves-adopts, leaves-joins, leaves-promises, leaves-leads, leaves-proposes, leaves-writes, leaves-accepts, leaves-times, leaves-answers_again, leaves-answers_state, leaves-plans, leaves-noted, leaves-kept, leaves-mark}
 
 -- a node that knows given views
 abbrev Knows : {S : Type 0} → List View → Node S → Type 0
@@ -53,6 +59,25 @@ knows-delivers : {S : Type 0} (m : Meaning S) (views : List View) (n : Node S) �
 unfolding delivers
 knows-delivers m views n is = knows-deliver_batch m views n n.waiting is
 
+-- an installation: what is installed knows the views that the node knows
+knows-install_by : {S : Type 0} (views : List View) (n : Node S) (f : Fetch) (made : Result (Replica S) Spoiled) → Knows views n → Knows views (install_by n f made)
+unfolding install_replica spoil
+knows-install_by views n f (Err why) is = is
+knows-install_by views n f (Ok r) is = by (is_of_group n r) refl
+  where
+    by : (t : Bool) → is_of_group n r ≡ t → Knows views (cond t (install_replica n f r) (spoil n f))
+    by true of = views_equal n r of ∙ is
+    by false of = is
+
+knows-install_fetch : {S : Type 0} (m : Meaning S) (views : List View) (n : Node S) (due : Option Fetch) → Knows views n → Knows views (install_fetch m n due)
+unfolding install_fetch
+knows-install_fetch m views n None is = is
+knows-install_fetch m views n (Some f) is = knows-install_by views n f (finished m f) is
+
+knows-installs : {S : Type 0} (m : Meaning S) (views : List View) (n : Node S) → Knows views n → Knows views (installs m n)
+unfolding installs
+knows-installs m views n is = knows-install_fetch m views n (installing n) is
+
 -- all rules
 knows-rules : {S : Type 0} (views : List View) → KeptByRules {S = S} (λ n. Knows views n)
 knows-rules views = record {
@@ -66,6 +91,8 @@ knows-rules views = record {
   by_decides = λ n is. knows-decides views n is;
   by_times = λ n is. knows-leaves views n (times n) (leaves-times n) is;
   by_answers = λ n asked is. knows-leaves views n (answers_again n asked) (leaves-answers_again n asked) is;
+  by_states = λ n a is. knows-leaves views n (answers_state n a) (leaves-answers_state n a) is;
+  by_plans = λ n is. knows-leaves views n (plans n) (leaves-plans n) is;
 }
 
 knows-in_steps : {S : Type 0} (m : Meaning S) (views : List View) → KeptInSteps m (λ n. Knows views n) (λ message. Unit {0})
@@ -73,7 +100,9 @@ knows-in_steps m views = record {
   by_rules = knows-rules views;
   by_noted = λ n message is. knows-leaves views n (noted n message) (leaves-noted n message) is;
   by_kept = λ n message fine may is. knows-leaves views n (kept n message) (leaves-kept n message) is;
+  by_installs = λ n is. knows-installs m views n is;
   by_delivers = λ n is. knows-delivers m views n is;
+  by_marks = λ n waits is delivered. knows-leaves views (delivers m n) (mark_place m (delivers m n)) (leaves-mark m (delivers m n)) delivered;
   by_firm = λ n count is. is;
 }
 

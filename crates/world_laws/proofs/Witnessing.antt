@@ -1,5 +1,5 @@
 -- What members have stated is witnessed by what became firm at them.
-use Rattle.std.proofs.Common.{◌≡◌, ⊎_elim, ◌⊎◌, ℕ, zero, suc, ◌+◌, ◌*◌, ◌^◌, ◌≤◌, ◌==◌, ◌&&◌, ◌||◌, Bool, true, false, List, [], ◌∷◌, ◌++◌, take, length, filter, refl, ap, sym, ◌∙◌, subst, inl, inr, Option, Some, eqb-true, eq-eqb, nat_le, append-nil}
+use Rattle.std.proofs.Common.{◌≡◌, ⊎_elim, ◌⊎◌, ℕ, zero, suc, ◌+◌, ◌*◌, ◌^◌, ◌<◌, ◌≤◌, arith, ◌==◌, ◌&&◌, ◌||◌, Bool, true, false, List, [], ◌∷◌, ◌++◌, take, length, filter, refl, ap, sym, ◌∙◌, subst, inl, inr, Option, Some, eqb-true, eq-eqb, nat_le, append-nil, drop, append_assoc, length-append}
 use Rattle.std.proofs.lemmas.Bool.{ltb-false, leb-true, or_parts}
 use Rattle.std.proofs.lemmas.Grind.{flat_map-append}
 use Rattle.std.specs.Prelude.{map, slice_get, slice_set}
@@ -10,7 +10,7 @@ use Rattle.smart_base.specs.declared.party.Party.TheVariants.{Member}
 use Rattle.smart_messages.specs.declared.message.Message.{Message}
 use Rattle.smart_statements.specs.declared.entry.NodeEvent.{NodeEvent}
 use Rattle.smart_statements.specs.declared.entry.NodeEvent.TheVariants.{Arrive, Tick, Deliver, Firm}
-use Rattle.vote_book.specs.Books.{Among, Lawful}
+use Rattle.vote_book.specs.Books.{Among, Lawful, HasMade}
 use Rattle.vote_book.specs.declared.entry.LogEntry.{LogEntry}
 use Rattle.replica_rules.specs.Seals.{digest_of}
 use Rattle.node_rules.specs.Steps.{leaving}
@@ -20,10 +20,10 @@ use Rattle.agreement_laws.specs.Statements.{Statement, signer_of, statements, Is
 use Rattle.agreement_laws.specs.Diaries.{IsShown}
 use Rattle.agreement_laws.specs.Certificates.{IsBacked}
 use Rattle.agreement_laws.specs.Law.{FewFaulty, Witnessed}
-use Rattle.agreement_laws.proofs.Lists.{among_left, among_right, among_either, each_from, either, either_by, some_equal}
+use Rattle.agreement_laws.proofs.Lists.{among_left, among_right, among_either, each_from, either, either_by, some_equal, each_among}
 use Rattle.agreement_laws.proofs.Growing.{take-longer, IsShown-front}
 use Rattle.agreement_laws.proofs.Closed.{closed}
-use Rattle.node_laws.specs.Sound.{AreAmong, IsStated, IsStatedEvent, IsHeld}
+use Rattle.node_laws.specs.Sound.{AreAmong, IsStated, IsStatedEvent, IsHeld, IsSound}
 use Rattle.world_rules.specs.Secrets.{group_secret}
 use Rattle.world_rules.specs.Premises.{is_among, too_many}
 use Rattle.world_rules.specs.Worlds.{Host, World, host_of}
@@ -35,6 +35,13 @@ use Rattle.world_laws.proofs.Lists.{each_set}
 use Rattle.world_laws.proofs.Keeps.{HasContent, MayRead}
 use Rattle.smart_base.proofs.SameLists.{and_true}
 use Rattle.smart_base.proofs.ViewFacts.{each-weaken}
+use Rattle.node_rules.specs.Nodes.{Node}
+use Rattle.std.proofs.lemmas.List.{take-append-drop, length-take-le}
+use Rattle.std.proofs.Math.Seq.{take-append_seam}
+use Rattle.book_laws.specs.BookCuts.{cut_at}
+use Rattle.book_laws.proofs.CutAgain.{cut_more}
+use Rattle.node_laws.specs.Restored.{IsSoundBook}
+use Rattle.node_laws.proofs.CutShown.{shown_written}
 
 -- what has been stated
 
@@ -202,32 +209,73 @@ shown_own {S = S} faulty x (g ∷ hs) (suc i) h once at who shown = (
 
 -- what a node lets go
 
+shorter_take : (n k : ℕ) (es : List LogEntry) → n ≤ k → IsFront (take n es) (take k es)
+shorter_take n k es le = subst (λ (xs : List LogEntry). IsFront (take n es) (take k xs)) (append-nil es) (take-longer n k es [] le)
+
+-- the diary of a life that began with no entry
+shown_whole : {S : Type 0} (stated : List Statement) (view : View) (n : Node S) (d : List LogEntry) (x : Held) → IsSound stated view n → take n.firm n.entries ≡ d → Among x n.held → x.needs ≤ n.firm
+    → Each (λ s. Among s stated ⊎ ((signer_of s ≡ Member n.id) × IsShown digest_of d s)) (statements n.secret x.message)
+shown_whole {S = S} stated view n d x is firm there low =
+    each-weaken (λ (s : Statement). Among s stated ⊎ ((signer_of s ≡ Member n.id) × IsShown digest_of (take x.needs n.entries) s)) (λ (s : Statement). Among s stated ⊎ ((signer_of s ≡ Member n.id) × IsShown digest_of d s))
+    (λ s own. ⊎_elim {C = Among s stated ⊎ ((signer_of s ≡ Member n.id) × IsShown digest_of d s)} (λ old. inl old)
+    (λ mine. inr (mine.0, subst (λ (es : List LogEntry). IsShown digest_of es s) firm (IsShown-front digest_of (take x.needs n.entries) (take n.firm n.entries) s (shorter_take x.needs n.firm n.entries low) mine.1))) own)
+    (statements n.secret x.message) (each_among (IsHeld n.secret n.id stated n.entries) n.held x is.held there).shown
+
+-- what is firm in a life that began with some entries of a diary
+pub firm_parts : {S : Type 0} (n : Node S) (first later d : List LogEntry) → d ≡ first ++ later → take n.firm n.entries ≡ cut_at n.opening d → (0 < n.opening → HasMade first n.opening)
+    → take n.firm n.entries ≡ cut_at n.opening first ++ later
+firm_parts n first later d both firm made = firm ∙ (ap (λ (es : List LogEntry). cut_at n.opening es) both ∙ cut_more n.opening first later made)
+
+-- the diary of a life that began with some
+shown_behind : {S : Type 0} (stated : List Statement) (view : View) (n : Node S) (first later d : List LogEntry) (x : Held) → IsSound stated view n → IsSoundBook n.secret stated view first → d ≡ first ++ later
+    → take n.firm n.entries ≡ cut_at n.opening d → n.restored ≡ length (cut_at n.opening first) → (0 < n.opening → HasMade first n.opening) → n.firm ≤ length n.entries → (first ≡ [] → ⊥) → Among x n.held → x.needs ≤ n.firm
+    → Each (λ s. Among s stated ⊎ ((signer_of s ≡ Member n.id) × IsShown digest_of d s)) (statements n.secret x.message)
+shown_behind {S = S} stated view n first later d x is book both firm count made most some there low =
+    let cut : List LogEntry = cut_at n.opening first in
+    let rest : List LogEntry = drop n.firm n.entries in
+    let parts : take n.firm n.entries ≡ cut ++ later = firm_parts n first later d both firm made in
+    let entries : n.entries ≡ cut ++ (later ++ rest) =
+    sym (take-append-drop n.firm n.entries) ∙ (ap (λ (es : List LogEntry). es ++ rest) parts ∙ append_assoc cut later rest) in
+    let taken = length-take-le n.firm n.entries most in
+    let long : length (take n.firm n.entries) ≡ length cut + length later = ap (λ (es : List LogEntry). length es) parts ∙ length-append cut later in
+    subst (λ (es : List LogEntry). Each (λ s. Among s stated ⊎ ((signer_of s ≡ Member n.id) × IsShown digest_of es s)) (statements n.secret x.message))
+    (ap (λ (es : List LogEntry). first ++ es) (take-append_seam later rest) ∙ sym both)
+    (shown_written stated view n first (later ++ rest) (length later) x is book entries count made some there (omega (arith, low, taken, long, count)))
+
+-- each statement of a message that a running node holds, if it waits for firm entries alone, has been stated, or is the member's own and shown by its diary
+pub running_shown : {S : Type 0} (stated : List Statement) (view : View) (n : Node S) (first later d : List LogEntry) (x : Held) → IsSound stated view n → IsSoundBook n.secret stated view first → d ≡ first ++ later
+    → take n.firm n.entries ≡ cut_at n.opening d → n.restored ≡ length (cut_at n.opening first) → (0 < n.opening → HasMade first n.opening) → n.firm ≤ length n.entries → Among x n.held → x.needs ≤ n.firm
+    → Each (λ s. Among s stated ⊎ ((signer_of s ≡ Member n.id) × IsShown digest_of d s)) (statements n.secret x.message)
+running_shown {S = S} stated view n [] later d x is book both firm count made most there low =
+    shown_whole stated view n d x is (firm ∙ whole n.opening (λ some. none (made some))) there low
+  where
+    none : HasMade [] n.opening → ⊥
+    none has = has.there
+
+    whole : (k : ℕ) → (0 < k → ⊥) → cut_at k d ≡ d
+    whole zero none = refl
+    whole (suc k) none = absurd (none (omega arith))
+running_shown {S = S} stated view n (e ∷ es) later d x is book both firm count made most there low =
+    shown_behind stated view n (e ∷ es) later d x is book both firm count made most (λ none. absurd cc) there low
+
 -- what is held and leaves states what has been stated, or what is shown
 leaving_shows : {S : Type 0} (faulty : List ℕ) (stated : List Statement) (hosts : List (Host S)) (i : ℕ) (h : Host S) (held : Held) → Distinct (map (λ g. g.node.id) hosts) → slice_get hosts i ≡ Some h
-    → h.life.diary ≡ take h.node.firm h.node.entries → held.needs ≤ h.node.firm → IsHeld group_secret h.node.id stated h.node.entries held → StatesShown faulty stated hosts (contents.Message held.message)
-leaving_shows {S = S} faulty T hosts i h held once at diary low is x there =
-    ⊎_elim {C = Among x T ⊎ Each (ShowsOwn faulty x) hosts} (λ old. inl old)
-    (λ own. inr (shown_own faulty x hosts i h once at own.0
-    (subst (λ (es : List LogEntry). IsShown digest_of es x) (sym diary)
-    (IsShown-front digest_of (take held.needs h.node.entries) (take h.node.firm h.node.entries) x (shorter held.needs h.node.firm h.node.entries low) own.1))))
-    (one (statements group_secret held.message) is.shown there)
-  where
-    one : (xs : List Statement) → Each (λ s. Among s T ⊎ ((signer_of s ≡ Member h.node.id) × IsShown digest_of (take held.needs h.node.entries) s)) xs → Among x xs
-        → Among x T ⊎ ((signer_of x ≡ Member h.node.id) × IsShown digest_of (take held.needs h.node.entries) x)
-    one [] each there = absurd there
-    one (y ∷ ys) each (inl same) = subst (λ (s : Statement). Among s T ⊎ ((signer_of s ≡ Member h.node.id) × IsShown digest_of (take held.needs h.node.entries) s)) (sym same) each.0
-    one (y ∷ ys) each (inr later) = one ys each.1 later
-
-    shorter : (n k : ℕ) (es : List LogEntry) → n ≤ k → IsFront (take n es) (take k es)
-    shorter n k es le = subst (λ (xs : List LogEntry). IsFront (take n es) (take k xs)) (append-nil es) (take-longer n k es [] le)
+    → Each (λ s. Among s stated ⊎ ((signer_of s ≡ Member h.node.id) × IsShown digest_of (firm_of h) s)) (statements group_secret held.message) → StatesShown faulty stated hosts (contents.Message held.message)
+leaving_shows {S = S} faulty T hosts i h held once at each x there =
+    ⊎_elim {C = Among x T ⊎ Each (ShowsOwn faulty x) hosts} (λ old. inl old) (λ own. inr (shown_own faulty x hosts i h once at own.0 own.1))
+    (each_among (λ (s : Statement). Among s T ⊎ ((signer_of s ≡ Member h.node.id) × IsShown digest_of (firm_of h) s)) (statements group_secret held.message) x each there)
 
 -- so it is with all that leave
-pub leave_shown : {S : Type 0} (faulty : List ℕ) (stated : List Statement) (hosts : List (Host S)) (i : ℕ) (h : Host S) (held : List Held) → Distinct (map (λ g. g.node.id) hosts) → slice_get hosts i ≡ Some h
-    → h.life.diary ≡ take h.node.firm h.node.entries → Each (IsHeld group_secret h.node.id stated h.node.entries) held → Each (λ x. StatesShown faulty stated hosts (contents.Message x.message)) (leaving h.node.firm held)
-leave_shown faulty T hosts i h [] once at diary each = tt
-leave_shown {S = S} faulty T hosts i h (x ∷ xs) once at diary each =
-    either_by (λ (hs : List Held). Each (λ y. StatesShown faulty T hosts (contents.Message y.message)) hs) (nat_le x.needs h.node.firm) (x ∷ leaving h.node.firm xs) []
-    (λ is. (leaving_shows faulty T hosts i h x once at diary (leb-true x.needs h.node.firm is) each.0, leave_shown faulty T hosts i h xs once at diary each.1)) (λ waits. tt)
+pub leave_shown : {S : Type 0} (faulty : List ℕ) (stated : List Statement) (hosts : List (Host S)) (i : ℕ) (h : Host S) (firm : ℕ) (held : List Held) → Distinct (map (λ g. g.node.id) hosts) → slice_get hosts i ≡ Some h
+    → ((x : Held) → Among x held → x.needs ≤ firm → Each (λ s. Among s stated ⊎ ((signer_of s ≡ Member h.node.id) × IsShown digest_of (firm_of h) s)) (statements group_secret x.message))
+    → Each (λ x. StatesShown faulty stated hosts (contents.Message x.message)) (leaving firm held)
+leave_shown faulty T hosts i h firm [] once at shown = tt
+leave_shown {S = S} faulty T hosts i h firm (x ∷ xs) once at shown =
+    either_by (λ (hs : List Held). Each (λ y. StatesShown faulty T hosts (contents.Message y.message)) hs) (nat_le x.needs firm) (x ∷ leaving firm xs) []
+    (λ is. (
+      leaving_shows faulty T hosts i h x once at (shown x (inl refl) (leb-true x.needs firm is)),
+      leave_shown faulty T hosts i h firm xs once at (λ y there low. shown y (inr there) low),
+    )) (λ waits. tt)
 
 -- witnessed
 

@@ -1,7 +1,7 @@
 -- The promise of a play: all members deliver one list of batches (state machine replication).
-use Rattle.std.specs.Prelude.{ℕ, zero, suc, true, ◌+◌, ◌-◌, ◌++◌, ◌==◌, ◌≡◌, ◌<◌, ◌≤◌, ◌⊎◌, List, [], ◌∷◌, length, take, slice_get, max, filter, map, if◌then◌else◌, nat_le, not, ◌&&◌, Bool, false, Option, Some, None, IfSome}
+use Rattle.std.specs.Prelude.{ℕ, zero, suc, true, ◌+◌, ◌-◌, ◌^◌, ◌++◌, ◌==◌, ◌≡◌, ◌<◌, ◌≤◌, ◌⊎◌, List, [], ◌∷◌, length, take, slice_get, max, filter, map, if◌then◌else◌, nat_le, not, ◌&&◌, Bool, false, Option, Some, None, IfSome}
 use Rattle.smart_base.specs.Lists.{Each}
-use Rattle.smart_base.specs.Views.{View}
+use Rattle.smart_base.specs.Views.{View, is_view}
 use Rattle.smart_statements.specs.Kinds.{requests}
 use Rattle.smart_statements.specs.Batches.{Batch}
 use Rattle.smart_statements.specs.declared.statement.Request.{Request}
@@ -14,20 +14,23 @@ use Rattle.replica_rules.specs.Replicas.{state, executed_lines, answer, place_of
 use Rattle.replica_rules.specs.Seals.{signed}
 use Rattle.node_rules.specs.Nodes.{next_place}
 use Rattle.node_rules.specs.Deliveries.{AtPlaces}
-use Rattle.node_rules.specs.Reopening.{reopened, damaged, entries_in}
+use Rattle.node_rules.specs.Reopening.{damage_of, reopened_from}
 use Rattle.smart_service.specs.declared.replica.Replica.{Replica}
-use Rattle.vote_book.specs.Books.{Among}
+use Rattle.snapshot_form.specs.Replicas.{is_first_view}
+use Rattle.vote_book.specs.Books.{Among, HasMade, last_made}
 use Rattle.vote_book.specs.Entries.{entry_text}
+use Rattle.book_laws.specs.BookCuts.{cut_at}
 use Rattle.agreement_laws.specs.Statements.{Statement, signer_of, said, reply_stated}
 use Rattle.store_laws.specs.Restored.{Images, restores}
-use Rattle.world_rules.specs.Crashes.{bytes_held, images_left, wrong_images}
+use Rattle.world_rules.specs.Crashes.{images_left, wrong_images}
+use Rattle.world_rules.specs.Fronts.{checkpoint_place}
 use Rattle.world_rules.specs.declared.crash.Image.{Image}
 use Rattle.store_laws.specs.States.{MayLeave}
 use Rattle.node_rules.specs.declared.node.Delivery.{Delivery}
-use Rattle.world_rules.specs.Secrets.{group_secret, outset_place}
+use Rattle.world_rules.specs.Secrets.{group_secret}
 use Rattle.world_rules.specs.Premises.{is_among}
 use Rattle.world_rules.specs.declared.message.Content.TheVariants as contents
-use Rattle.world_rules.specs.Worlds.{Host, World, course_of, is_gone, life_crashed, begun, outset_of}
+use Rattle.world_rules.specs.Worlds.{Host, World, course_of, is_gone, life_crashed, parts_of, parts_held, host_index, host_resumed, begun}
 use Rattle.world_rules.specs.Plays.{world_after, lines_told}
 use Rattle.world_rules.specs.Knowing.{known_by}
 use Rattle.world_rules.specs.Stated.{IsWitnessed, stated, diary}
@@ -40,6 +43,7 @@ use Rattle.world_rules.specs.declared.line.OutLine.{OutLine}
 use Rattle.world_rules.specs.declared.line.OutLine.TheVariants as outs
 use Rattle.world_rules.specs.declared.message.Sent.{Sent}
 use Rattle.world_rules.specs.declared.message.Origin.TheVariants as origins
+use Rattle.world_rules.specs.declared.line.Header.{Header}
 
 -- a waiting batch, if there is one, that is the list's batch at a place
 abbrev pub IsNext : List Batch → ℕ → Option Batch → Type 0
@@ -52,9 +56,9 @@ pub record IsChosenAt {S : Type 0} (m : Meaning S) (view : View) (chosen : List 
   pub batch : batch_at chosen d.place ≡ Some d.batch
   pub executed : d.executed ≡ length (executed_lines m (state m view (take (d.place - 1) chosen)) d.batch)
 
--- A host that has delivered a front of the list. Its replica is the state after that front. In this life it has delivered one batch at each
--- place after the one at which the life began, in order. Each delivery of any of its lives is right by the list. The batch that it has decided
--- and not delivered is the list's too. INTERIM(transfer): an installed replica will begin a segment of deliveries, as a restart does.
+-- A host that has delivered a front of the list. Its replica is the state after that front. Since it began this life or
+-- took over a replica, it has delivered one batch at each place after that one, in order. Each delivery of any of its lives is right by the list. The batch that it has decided
+-- and not delivered is the list's too.
 pub record IsPrefix {S : Type 0} (m : Meaning S) (view : View) (chosen : List Batch) (h : Host S) : Type 0 where
   pub within : h.node.replica.place ≤ length chosen
   pub replica : h.node.replica ≡ state m view (take h.node.replica.place chosen)
@@ -67,12 +71,12 @@ pub record IsPrefix {S : Type 0} (m : Meaning S) (view : View) (chosen : List Ba
 -- ---- kept places
 
 -- the replica after a restart, if a crash leaves given bytes of the devices
-abbrev pub restored_replica : {S : Type 0} → Meaning S → View → Host S → Images → Replica S
-restored_replica m view h left = (reopened m (outset_of m view h.node.id) (entries_in (restores left).entries)).replica
+abbrev pub restored_replica : {S : Type 0} → Meaning S → View → ℕ → Host S → Images → Replica S
+restored_replica m view period h left = (reopened_from m group_secret h.node.id view period (parts_of (restores left))).replica
 
 -- a correct member whose devices restore a place or a later one
 abbrev pub has_place : {S : Type 0} → Meaning S → World S → (ℕ → Images) → ℕ → Host S → Bool
-has_place m w left place h = not (is_gone w h.node.id) && nat_le place (restored_replica m w.view h (left h.node.id)).place
+has_place m w left place h = not (is_gone w h.node.id) && nat_le place (restored_replica m w.view w.period h (left h.node.id)).place
 
 -- bytes that crashes now may leave of the devices of all correct members, whether their nodes run or have crashed
 abbrev pub MayBeLeft : {S : Type 0} → World S → (ℕ → Images) → Type 0
@@ -84,18 +88,21 @@ pub record IsKept {S : Type 0} (m : Meaning S) (w : World S) (place : ℕ) : Typ
   pub enough : (left : ℕ → Images) → MayBeLeft w left → w.view.f < length (filter (has_place m w left place) w.hosts)
 
 -- A member that can restart (recovery: Dura-SMaRt, USENIX ATC 2013). A crash may leave each device as it was at its last sync, or as it
--- reads now. A crash line without patches therefore never ends a play. Whatever a crash leaves, the devices restore exactly the diary that
--- this crash makes. That diary begins with the present one, and then has at most entries that were not firm. No restored entry is damaged.
--- The restored replica is the state after a front of the list. If the member has crashed, what its devices hold is not damaged either.
--- INTERIM(checkpoints): later devices restore the cut of that diary.
+-- reads now. A crash line without patches therefore never ends a play. Whatever a crash leaves, the devices restore exactly the cut of the
+-- diary that this crash makes, at the place of their newest checkpoint. That diary begins with the present one, and then has at most entries
+-- that were not firm. It has made that place. Neither the restored checkpoint nor a restored entry is damaged. The restored replica is the
+-- state after a front of the list, at the last place that the diary has made. If the member has crashed, what its devices hold is not damaged
+-- either.
 pub record Recovers {S : Type 0} (m : Meaning S) (w : World S) (h : Host S) : Type 0 where
   pub possible : (image : Image) → wrong_images h.store (images_left image [] h.store) ≡ None
   pub leaves : (image : Image) → MayLeave h.store.devices (images_left image [] h.store)
-  pub diary : (left : Images) → MayLeave h.store.devices left → (restores left).entries ≡ map entry_text (life_crashed h left).diary
-  pub undamaged : (left : Images) → MayLeave h.store.devices left → damaged group_secret outset_place w.view (restores left).entries ≡ None
-  pub restarts : h.up ≡ false → damaged group_secret outset_place w.view (restores (bytes_held h.store)).entries ≡ None
-  pub within : (left : Images) → MayLeave h.store.devices left → (restored_replica m w.view h left).place ≤ length w.chosen
-  pub right : (left : Images) → MayLeave h.store.devices left → restored_replica m w.view h left ≡ state m w.view (take (restored_replica m w.view h left).place w.chosen)
+  pub diary : (left : Images) → MayLeave h.store.devices left → (restores left).entries ≡ map entry_text (cut_at (checkpoint_place (restores left).present) (life_crashed h left).diary)
+  pub made : (left : Images) → MayLeave h.store.devices left → 0 < checkpoint_place (restores left).present → HasMade (life_crashed h left).diary (checkpoint_place (restores left).present)
+  pub undamaged : (left : Images) → MayLeave h.store.devices left → damage_of m group_secret w.view (parts_of (restores left)) ≡ None
+  pub restarts : h.up ≡ false → damage_of m group_secret w.view (parts_held h) ≡ None
+  pub within : (left : Images) → MayLeave h.store.devices left → (restored_replica m w.view w.period h left).place ≤ length w.chosen
+  pub reaches : (left : Images) → MayLeave h.store.devices left → (restored_replica m w.view w.period h left).place ≡ last_made (life_crashed h left).diary
+  pub right : (left : Images) → MayLeave h.store.devices left → restored_replica m w.view w.period h left ≡ state m w.view (take (restored_replica m w.view w.period h left).place w.chosen)
 
 -- ---- replies
 
@@ -182,9 +189,10 @@ pub record OneList {S : Type 0} (m : Meaning S) (w : World S) : Type 0 where
 abbrev pub IsAnswered : {S : Type 0} → Meaning S → View → List Batch → OutLine → Type 0
 IsAnswered m view chosen (outs.Accepted client seq place index reply) =
     (place_of m view chosen client seq ≡ Some (place, index)) × (answer m view chosen place index ≡ Some reply)
-IsAnswered m view chosen (outs.Group members faulty app) = Unit {0}
+IsAnswered m view chosen (outs.Group members faulty app period) = Unit {0}
 IsAnswered m view chosen (outs.Sent number origin summary) = Unit {0}
 IsAnswered m view chosen (outs.Decided member place) = Unit {0}
+IsAnswered m view chosen (outs.Installed member place) = Unit {0}
 IsAnswered m view chosen (outs.Delivered member place executed) = Unit {0}
 IsAnswered m view chosen (outs.Promised member number regency) = Unit {0}
 IsAnswered m view chosen (outs.Synced member number regency base bound) = Unit {0}
@@ -206,9 +214,10 @@ IsAnswered m view chosen (outs.End lines messages) = Unit {0}
 -- a transcript line that tells an accepted reply
 abbrev pub is_acceptance : OutLine → Bool
 is_acceptance (outs.Accepted client seq place index reply) = true
-is_acceptance (outs.Group members faulty app) = false
+is_acceptance (outs.Group members faulty app period) = false
 is_acceptance (outs.Sent number origin summary) = false
 is_acceptance (outs.Decided member place) = false
+is_acceptance (outs.Installed member place) = false
 is_acceptance (outs.Delivered member place executed) = false
 is_acceptance (outs.Promised member number regency) = false
 is_acceptance (outs.Synced member number regency base bound) = false
@@ -234,9 +243,10 @@ accepted_line a = outs.Accepted a.request.client a.request.seq a.place a.index a
 -- a transcript line that tells a delivery at a member
 abbrev pub is_delivery : ℕ → OutLine → Bool
 is_delivery id (outs.Delivered member place executed) = member == id
-is_delivery id (outs.Group members faulty app) = false
+is_delivery id (outs.Group members faulty app period) = false
 is_delivery id (outs.Sent number origin summary) = false
 is_delivery id (outs.Decided member place) = false
+is_delivery id (outs.Installed member place) = false
 is_delivery id (outs.Promised member number regency) = false
 is_delivery id (outs.Synced member number regency base bound) = false
 is_delivery id (outs.Dropped member why) = false
@@ -264,7 +274,7 @@ delivered_line id d = outs.Delivered id d.place d.executed
 abbrev pub HasTold : {S : Type 0} → List OutLine → Host S → Type 0
 HasTold told h = filter (is_delivery h.node.id) told ≡ map (delivered_line h.node.id) (h.earlier ++ h.delivered)
 
--- what a node restarted from: a place, and a number of entries
+-- what a node's deliveries go on from: a place, and the number of entries of its last restart
 pub record Restart : Type 0 where
   pub place : ℕ
   pub entries : ℕ
@@ -276,11 +286,12 @@ restart_of place entries = record { place = place; entries = entries }
 abbrev pub from_nothing : Restart
 from_nothing = restart_of 0 0
 
--- what a member's node last restarted from, by a transcript line: what the line tells if it is of such a restart, else as before
+-- what a member's node goes on from, by a transcript line: what the line tells if it is of its restart or installation, else as before
 abbrev pub restarts_with : ℕ → Restart → OutLine → Restart
-restarts_with id before (outs.Group members faulty app) = before
+restarts_with id before (outs.Group members faulty app period) = before
 restarts_with id before (outs.Sent number origin summary) = before
 restarts_with id before (outs.Decided member place) = before
+restarts_with id before (outs.Installed member place) = if member == id then restart_of place before.entries else before
 restarts_with id before (outs.Delivered member place executed) = before
 restarts_with id before (outs.Promised member number regency) = before
 restarts_with id before (outs.Synced member number regency base bound) = before
@@ -300,18 +311,18 @@ restarts_with id before (outs.Stands member place number regency) = before
 restarts_with id before (outs.Seen client place) = before
 restarts_with id before (outs.End lines messages) = before
 
--- what a member's node last restarted from, by a transcript: what its last line of such a restart tells, else as before
+-- what a member's node goes on from, by a transcript: what its last lines of a restart and of an installation tell, else as before
 abbrev pub last_restart : ℕ → Restart → List OutLine → Restart
 last_restart id before [] = before
 last_restart id before (line ∷ lines) = last_restart id (restarts_with id before line) lines
 
--- A host whose node began this life at a place, with this number of restored entries. INTERIM(checkpoints): later a node restores those of a
--- cut. INTERIM(transfer): later an installation begins a segment of deliveries, too.
+-- A host whose node began this life at a place or took over its replica, and began this life with this number of restored entries: those of
+-- the log after its newest checkpoint, if it had one.
 pub record WentOn {S : Type 0} (from : Restart) (h : Host S) : Type 0 where
   pub place : h.resumed ≡ from.place
   pub entries : h.node.restored ≡ from.entries
 
--- a host whose life began as the last transcript line of its restart tells, or from nothing if no line does
+-- a host whose deliveries go on as the last transcript lines of its restart and its installation tell, or from nothing if no line does
 abbrev pub HasGoneOn : {S : Type 0} → List OutLine → Host S → Type 0
 HasGoneOn told h = WentOn (last_restart h.node.id from_nothing told) h
 
@@ -325,9 +336,16 @@ pub record AreDeclared (declares : ℕ → Line) (played : List Line) (ending : 
 abbrev pub IsPast : List Sent → List OutLine → Request → Type 0
 IsPast sent told q = HasAsked sent q ⊎ (known_by q.client told ≤ q.after)
 
+-- A header of which the world of a play may begin. Its view is the first one, with the number 0 and from place 1 on. Its period has a spelling
+-- in an opening, as each period of a script has: those are from N to 2^20.
+pub record IsHeader (g : Header) : Type 0 where
+  pub viewed : is_view g.view ≡ true
+  pub begins : is_first_view g.view ≡ true
+  pub period_fits : g.period < 2 ^ 32
+
 -- the world after the first lines of a script over a group
-abbrev pub world_at : {S : Type 0} → Meaning S → View → List Line → ℕ → World S
-world_at m view ls k = world_after (course_of m) (begun m view) (take k ls)
+abbrev pub world_at : {S : Type 0} → Meaning S → Header → List Line → ℕ → World S
+world_at m g ls k = world_after (course_of m) (begun m g) (take k ls)
 
 -- A line that has had its effect. If it tells a client what another knows, the client then knows the greater of both places. This is claimed
 -- while nothing has ended the play, and if the other client is not rogue.
@@ -353,30 +371,40 @@ HasTaught w before after (lines.Faulty member) = Unit {0}
 HasTaught w before after (lines.Rogue client) = Unit {0}
 HasTaught w before after (lines.Inject form) = Unit {0}
 
--- One list throughout a play: it holds after each line. The group's view stays, INTERIM(views). The faulty members and the rogue clients are those that a line
--- has declared. The list, what was sent, what was accepted and each diary only grow. Each transcript line of an accepted reply tells the
--- service's answer on the list. The transcript tells each accepted reply once, in order, and no other. It tells the deliveries of each node
--- once, in order, through all its lives, and no other. Each node began this life as the last line of its restart tells. After a line that tells
--- a client what another knows, the client knows that too. The request of each accepted reply states what its client knew. Take any line after
--- which it had not been sent: it states no earlier place than the transcript had told the client by then. Those are places of
--- accepted replies, and learned ones. The reply stands past them all, as its place is later than the one that the request states (`above` of
--- `IsRightReply`). After each line the diary of each correct member is lawful and rests on what has been stated. It shows each statement of the
--- member that stands in what was sent. Each batch of the list has a decision among what has been stated. While a member runs, its diary is what
--- is firm of its node's book. After its crash the diary is what its devices restore.
-pub record OneListThroughout {S : Type 0} (m : Meaning S) (view : View) (ls : List Line) : Type 0 where
-  pub one_list : (k : ℕ) → OneList m (world_at m view ls k)
-  pub viewed : (k : ℕ) → (world_at m view ls k).view ≡ view
-  pub faulty : (k : ℕ) → AreDeclared (λ member. lines.Faulty member) (take k ls) (world_at m view ls k).ending (world_at m view ls k).faulty
-  pub rogue : (k : ℕ) → AreDeclared (λ client. lines.Rogue client) (take k ls) (world_at m view ls k).ending (world_at m view ls k).rogue
-  pub grows : (j k : ℕ) → j ≤ k → take (length (world_at m view ls j).chosen) (world_at m view ls k).chosen ≡ (world_at m view ls j).chosen
-  pub sent_grows : (j k : ℕ) → j ≤ k → take (length (world_at m view ls j).sent) (world_at m view ls k).sent ≡ (world_at m view ls j).sent
-  pub accepted_grows : (j k : ℕ) → j ≤ k → take (length (world_at m view ls j).accepted) (world_at m view ls k).accepted ≡ (world_at m view ls j).accepted
-  pub diaries_grow : (j k : ℕ) → j ≤ k → (member : ℕ) → take (length (diary (world_at m view ls j) member)) (diary (world_at m view ls k) member) ≡ diary (world_at m view ls j) member
-  pub told : (k : ℕ) → Each (IsAnswered m view (world_at m view ls k).chosen) (lines_told (course_of m) (begun m view) (take k ls))
-  pub told_all : (k : ℕ) → filter is_acceptance (lines_told (course_of m) (begun m view) (take k ls)) ≡ map accepted_line (world_at m view ls k).accepted
-  pub told_deliveries : (k : ℕ) → Each (HasTold (lines_told (course_of m) (begun m view) (take k ls))) (world_at m view ls k).hosts
-  pub told_restarts : (k : ℕ) → Each (HasGoneOn (lines_told (course_of m) (begun m view) (take k ls))) (world_at m view ls k).hosts
+-- A member that a line has restarted. Before the line its host stands at an index, and it has crashed. Its host there is then the one that
+-- goes on from what its devices hold, and runs. This is claimed while nothing has ended the play, and if the member is not faulty.
+abbrev pub HasRestarted : {S : Type 0} → Meaning S → World S → World S → ℕ → Type 0
+HasRestarted {S = S} m before after member =
+    before.ending ≡ None → (i : ℕ) (h : Host S) → host_index before.hosts member ≡ Some i → slice_get before.hosts i ≡ Some h → h.up ≡ false → is_gone before h.node.id ≡ false
+    → slice_get after.hosts i ≡ Some (host_resumed h (reopened_from m group_secret h.node.id before.view before.period (parts_held h)))
+
+-- One list throughout a play: it holds after each line. The group's view stays, INTERIM(views), and so does its period. The faulty members
+-- and the rogue clients are those that a line has declared. The list, what was sent, what was accepted and each diary only grow. Each
+-- transcript line of an accepted reply tells the service's answer on the list. The transcript tells each accepted reply once, in order, and
+-- no other. It tells the deliveries of each node once, in order, through all its lives, and no other. Each node goes on from the place that
+-- the last line of its restart or installation tells. After a line that restarts a crashed member, its node runs, from what its devices
+-- hold. After a line that tells a client what another knows, the client knows that too. The request of each accepted reply states what its
+-- client knew. Take any line after which it had not been sent: it states no earlier place than the transcript had told the client by then.
+-- Those are places of accepted replies, and learned ones. The reply stands past them all, as its place is later than the one that the request
+-- states (`above` of `IsRightReply`). After each line the diary of each correct member is lawful and rests on what has been stated. It shows
+-- each statement of the member that stands in what was sent. Each batch of the list has a decision among what has been stated. While a member
+-- runs, what is firm of its node's book is the cut of its diary. After its crash its devices restore the cut of the diary.
+pub record OneListThroughout {S : Type 0} (m : Meaning S) (g : Header) (ls : List Line) : Type 0 where
+  pub one_list : (k : ℕ) → OneList m (world_at m g ls k)
+  pub viewed : (k : ℕ) → (world_at m g ls k).view ≡ g.view
+  pub period : (k : ℕ) → (world_at m g ls k).period ≡ g.period
+  pub faulty : (k : ℕ) → AreDeclared (λ member. lines.Faulty member) (take k ls) (world_at m g ls k).ending (world_at m g ls k).faulty
+  pub rogue : (k : ℕ) → AreDeclared (λ client. lines.Rogue client) (take k ls) (world_at m g ls k).ending (world_at m g ls k).rogue
+  pub grows : (j k : ℕ) → j ≤ k → take (length (world_at m g ls j).chosen) (world_at m g ls k).chosen ≡ (world_at m g ls j).chosen
+  pub sent_grows : (j k : ℕ) → j ≤ k → take (length (world_at m g ls j).sent) (world_at m g ls k).sent ≡ (world_at m g ls j).sent
+  pub accepted_grows : (j k : ℕ) → j ≤ k → take (length (world_at m g ls j).accepted) (world_at m g ls k).accepted ≡ (world_at m g ls j).accepted
+  pub diaries_grow : (j k : ℕ) → j ≤ k → (member : ℕ) → take (length (diary (world_at m g ls j) member)) (diary (world_at m g ls k) member) ≡ diary (world_at m g ls j) member
+  pub told : (k : ℕ) → Each (IsAnswered m g.view (world_at m g ls k).chosen) (lines_told (course_of m) (begun m g) (take k ls))
+  pub told_all : (k : ℕ) → filter is_acceptance (lines_told (course_of m) (begun m g) (take k ls)) ≡ map accepted_line (world_at m g ls k).accepted
+  pub told_deliveries : (k : ℕ) → Each (HasTold (lines_told (course_of m) (begun m g) (take k ls))) (world_at m g ls k).hosts
+  pub told_restarts : (k : ℕ) → Each (HasGoneOn (lines_told (course_of m) (begun m g) (take k ls))) (world_at m g ls k).hosts
+  pub restarted : (k member : ℕ) → slice_get ls k ≡ Some (lines.Restart member) → HasRestarted m (world_at m g ls k) (world_at m g ls (k + 1)) member
   pub taught : (k : ℕ) (line : Line) → slice_get ls k ≡ Some line
-      → HasTaught (world_at m view ls k) (lines_told (course_of m) (begun m view) (take k ls)) (lines_told (course_of m) (begun m view) (take (k + 1) ls)) line
-  pub past_known : (j k : ℕ) → Each (λ a. IsPast (world_at m view ls j).sent (lines_told (course_of m) (begun m view) (take j ls)) a.request) (world_at m view ls k).accepted
-  pub witnessed : (k : ℕ) → IsWitnessed (world_at m view ls k)
+      → HasTaught (world_at m g ls k) (lines_told (course_of m) (begun m g) (take k ls)) (lines_told (course_of m) (begun m g) (take (k + 1) ls)) line
+  pub past_known : (j k : ℕ) → Each (λ a. IsPast (world_at m g ls j).sent (lines_told (course_of m) (begun m g) (take j ls)) a.request) (world_at m g ls k).accepted
+  pub witnessed : (k : ℕ) → IsWitnessed (world_at m g ls k)

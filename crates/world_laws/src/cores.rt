@@ -1,8 +1,8 @@
 //! A play of cores: nodes that keep only what they still need.
 ghost use Rattle.std.specs.Prelude.{◌≡◌, List};
-ghost use Rattle.smart_base.specs.Views.{View};
 ghost use Rattle.world_rules.specs.Worlds.{course_of, core_course, begun};
 ghost use Rattle.world_rules.specs.Plays.{world_after, lines_told};
+ghost use Rattle.world_rules.specs.declared.line.Header.{Header};
 ghost use Rattle.world_rules.specs.declared.line.Line.{Line};
 ghost use Rattle.world_laws.specs.Cores.{trimmed_world};
 
@@ -14,6 +14,6 @@ use smart_service::service::Service;
 /// After the script its world is that of whole nodes, with two exceptions. Each node holds only the
 /// arrivals and proposed slots that it still needs. Nothing of members' lives is written down.
 pub fn cores_play_alike<S: Service>()
-    ensures told { (view : View) (ls : List Line) → lines_told (core_course S.meaning) (begun S.meaning view) ls ≡ lines_told (course_of S.meaning) (begun S.meaning view) ls }
-    ensures world { (view : View) (ls : List Line) → world_after (core_course S.meaning) (begun S.meaning view) ls ≡ trimmed_world (world_after (course_of S.meaning) (begun S.meaning view) ls) }
+    ensures told { (header : Header) (ls : List Line) → lines_told (core_course S.meaning) (begun S.meaning header) ls ≡ lines_told (course_of S.meaning) (begun S.meaning header) ls }
+    ensures world { (header : Header) (ls : List Line) → world_after (core_course S.meaning) (begun S.meaning header) ls ≡ trimmed_world (world_after (course_of S.meaning) (begun S.meaning header) ls) }
 {}

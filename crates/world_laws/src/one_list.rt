@@ -1,8 +1,8 @@
 //! One list of batches, in every play.
-ghost use Rattle.std.specs.Prelude.{◌≡◌, List, true};
-ghost use Rattle.smart_base.specs.Views.{View, is_view};
+ghost use Rattle.std.specs.Prelude.{◌≡◌, List};
+ghost use Rattle.world_rules.specs.declared.line.Header.{Header};
 ghost use Rattle.world_rules.specs.declared.line.Line.{Line};
-ghost use Rattle.world_laws.specs.Promises.{OneListThroughout};
+ghost use Rattle.world_laws.specs.Promises.{IsHeader, OneListThroughout};
 
 use smart_service::service::Service;
 
@@ -13,16 +13,19 @@ use smart_service::service::Service;
 /// crash any members, and their devices may then hold whatever a crash can leave.
 ///
 /// *Delivery.* Each node has delivered a front of the list, also a faulty member's and a crashed
-/// one's. Its service, its table of clients and its views are the state after that front. In this
-/// life its steps delivered one batch at each place after the one at which the life began, in order.
+/// one's. Its service, its table of clients and its views are the state after that front, also where
+/// it took over a replica. Since then, or since this life began, its steps delivered one batch at each
+/// place after that one, in order.
 /// Each batch that a step delivered, in any life, is the list's at its place. A decided batch that
 /// waits for delivery is the list's at the next place.
 ///
-/// *Restart.* Whatever a crash now leaves of a member's devices, they restore exactly the diary that
-/// this crash makes. That diary has everything that became firm there, and then what the crash brings
-/// back. No restored entry is damaged, at a crash now or after one that happened. The restored
-/// replica is the state after a front of the list. A crash may leave each device as it was at its
-/// last sync, or as it reads now. A crash line without patches never ends a play.
+/// *Restart.* Whatever a crash now leaves of a member's devices, they restore a cut of the diary that
+/// this crash makes. It is the cut at the place of their checkpoint, which that diary has made, no more
+/// and no less. That diary has everything that became firm there, and then what the crash brings back.
+/// Neither the checkpoint nor a restored entry is damaged, at a crash now or after one that happened.
+/// The restored replica is the state after a front of the list, at the last place that this diary has
+/// made. A crash may leave each device as it was at its last sync, or as it reads now. A crash line
+/// without patches never ends a play.
 ///
 /// *Replies.* A right reply is the service's answer at its place and index, to the request of its
 /// client and number there. Its client asked that request, unless the client is rogue. The place is
@@ -37,12 +40,12 @@ use smart_service::service::Service;
 /// place than any that its client knew before it sent the request. What a client knows the transcript
 /// tells: places of accepted replies, and learned ones.
 ///
-/// *The list and the transcript.* The view stays the group's, and its members have one node each. The
-/// list only grows. Each line of an accepted reply names where the list executes that client's
-/// request of that number, and the answer there. The transcript tells each accepted reply, once and
-/// in order, and no other. It tells each batch that a step of a node delivered, in all the node's
-/// lives and in order, and no other. A restart delivers decided batches again, and no line tells
-/// that.
+/// *The list and the transcript.* The view and the period stay the header's, and the members have
+/// one node each. The list only grows. Each line of an accepted reply names where the list executes
+/// that client's request of that number, and the answer there. The transcript tells each accepted
+/// reply, once and in order, and no other. It tells each batch that a step of a node delivered, in
+/// all the node's lives and in order, and no other. A restart delivers decided batches again, and
+/// no line tells that.
 ///
 /// *Evidence.* What a node or a client has sent is its own, except a client's request that a node
 /// passed on. A node's votes, replies and reports rest on entries that became firm there. After each
@@ -50,8 +53,10 @@ use smart_service::service::Service;
 ///
 /// *Declared.* The faulty members and the rogue clients are those that a line declared so. There is one
 /// client for each number from 0 to 1,024. What was sent, what was accepted and each diary only grow. A
-/// node began this life as the last line of its restart tells. A client that a line tells of a place
-/// knows that place from then on. A delivery has executed as many requests as the list executes there.
+/// node goes on from the place that the last line of its restart or installation tells. After a line that
+/// restarts a crashed member, its node runs from what its devices hold. A client that a line tells of a
+/// place knows that place from then on. A delivery has executed as many requests as the list executes
+/// there.
 pub fn one_list_throughout<S: Service>()
-    ensures { (view : View) (ls : List Line) → is_view view ≡ true → OneListThroughout S.meaning view ls }
+    ensures { (header : Header) (ls : List Line) → IsHeader header → OneListThroughout S.meaning header ls }
 {}

@@ -1,6 +1,6 @@
 //! Laws of what is sent, and of what it rests on.
-ghost use Rattle.std.specs.Prelude.{◌≡◌, ◌++◌, ◌∷◌, [], ℕ, List, true};
-ghost use Rattle.smart_base.specs.Views.{View, is_view};
+ghost use Rattle.std.specs.Prelude.{◌≡◌, ◌++◌, ◌∷◌, [], ℕ, List};
+ghost use Rattle.smart_base.specs.Views.{View};
 ghost use Rattle.smart_base.specs.declared.party.Party.{Party};
 ghost use Rattle.smart_statements.specs.Forms.{SignedBy};
 ghost use Rattle.smart_statements.specs.declared.statement.Request.{Request};
@@ -16,8 +16,10 @@ ghost use Rattle.world_rules.specs.Plays.{world_after};
 ghost use Rattle.client_quorum.specs.declared.client.Client.{Client};
 ghost use Rattle.client_quorum.specs.declared.client.Acceptance.{Acceptance};
 ghost use Rattle.client_quorum.specs.declared.client.Heard.TheVariants as hears;
+ghost use Rattle.world_rules.specs.declared.line.Header.{Header};
 ghost use Rattle.world_rules.specs.declared.line.Line.{Line};
 ghost use Rattle.replica_laws.specs.Sending.{LeavesFirm};
+ghost use Rattle.world_laws.specs.Promises.{IsHeader};
 ghost use Rattle.world_laws.specs.Sending.{hears_all, IsGiven, QuorumsReplied, SentFirm, AllGenuine};
 ghost use Rattle.world_laws.specs.Settling.{flow_begins, flow_goes, message_goes, node_goes};
 
@@ -33,24 +35,25 @@ use smart_service::service::Service;
 pub fn a_quorum_replied<S: Service>()
     ensures client { (view : View) (c : Client) (q : Request) (replies : List (SignedBy Answer)) (a : SignedBy Answer) (accepted : Acceptance) →
         heard view (hears_all view (asking c q) replies) a ≡ hears.Accepted accepted → IsGiven view q (replies ++ a ∷ []) accepted }
-    ensures world { (view : View) (ls : List Line) → is_view view ≡ true → QuorumsReplied (world_after (course_of S.meaning) (begun S.meaning view) ls) }
+    ensures world { (header : Header) (ls : List Line) → IsHeader header → QuorumsReplied (world_after (course_of S.meaning) (begun S.meaning header) ls) }
 {}
 
 /// A vote leaves only after its entry is firm. A reply leaves only after firm entries make its place
 /// or a later one. A report leaves only after its promise is firm, after the entries that it tells
-/// of. For other messages nothing is claimed. That replies wait for the log is Dura-SMaRt's (USENIX
-/// ATC 2013); that votes and reports do is this project's own rule.
+/// of. A MARK leaves only after the entry of its mark is firm. An offer of state leaves only after the
+/// entries of all its marks are firm. For other messages nothing is claimed. That replies wait for the
+/// log is Dura-SMaRt's (USENIX ATC 2013). That votes, reports and marks do is this project's own rule.
 ///
-/// Whatever comes to a node that has let nothing go yet, each vote, reply and report that would leave
-/// it now rests on firm entries. In a play votes, replies and reports rest on what became firm at
-/// their senders, in any life. This holds at each turn of a flow, and while a node settles or takes
-/// bytes. What a node or a client has sent names it as its signer, except a client's request that a
-/// node passed on to one member. What a script injects is for nobody.
+/// Whatever comes to a node that has let nothing go yet, each vote, reply, report, MARK and offer of
+/// state that would leave it now rests on firm entries. In a play such messages rest on what became
+/// firm at their senders, in any life. This holds at each turn of a flow, and while a node settles or
+/// takes bytes. What a node or a client has sent names it as its signer, except a client's request
+/// that a node passed on to one member. What a script injects is for nobody.
 pub fn votes_leave_when_firm<S: Service>()
     ensures node { (secret : List ℕ) (id : ℕ) (view : View) (period : ℕ) (events : List NodeEvent) → LeavesFirm (node_after S.meaning (opened (outset S.meaning secret id view period)) events) }
-    ensures first { (view : View) (ls : List Line) (members : List ℕ) (nodes i k : ℕ) → is_view view ≡ true → SentFirm (repeated (settle_once (course_of S.meaning) i) k (flow_begins S.meaning view ls members nodes)) }
-    ensures given { (view : View) (ls : List Line) (members : List ℕ) (turn : ℕ) (bytes : List ℕ) (tos : List Party) (i k : ℕ) → is_view view ≡ true →
-        SentFirm (node_goes S.meaning bytes i k (message_goes S.meaning members bytes tos (flow_goes S.meaning view ls members turn))) }
+    ensures first { (header : Header) (ls : List Line) (members : List ℕ) (nodes i k : ℕ) → IsHeader header → SentFirm (repeated (settle_once (course_of S.meaning) i) k (flow_begins S.meaning header ls members nodes)) }
+    ensures given { (header : Header) (ls : List Line) (members : List ℕ) (turn : ℕ) (bytes : List ℕ) (tos : List Party) (i k : ℕ) → IsHeader header →
+        SentFirm (node_goes S.meaning bytes i k (message_goes S.meaning members bytes tos (flow_goes S.meaning header ls members turn))) }
 {}
 
 /// Each message of a play is read from its bytes as itself, by whichever member is given them, if it
@@ -63,5 +66,5 @@ pub fn votes_leave_when_firm<S: Service>()
 /// bears the tag of its signer over its statement. Each request of a batch in it, and each report in
 /// a SYNC, bears its signer's tag too.
 pub fn what_is_sent_is_read<S: Service>()
-    ensures { (view : View) (ls : List Line) → is_view view ≡ true → AllGenuine (world_after (course_of S.meaning) (begun S.meaning view) ls) }
+    ensures { (header : Header) (ls : List Line) → IsHeader header → AllGenuine (world_after (course_of S.meaning) (begun S.meaning header) ls) }
 {}

@@ -1,9 +1,9 @@
 -- What a crash leaves of a member's store, as a script names it, and of which book.
-use Rattle.std.specs.Prelude.{ℕ, ◌-◌, ◌==◌, Bool, List, [], ◌∷◌, ◌++◌, length, replicate, if◌then◌else◌, Option, option_map}
+use Rattle.std.specs.Prelude.{ℕ, ◌-◌, ◌==◌, Bool, ◌||◌, List, [], ◌∷◌, ◌++◌, length, replicate, if◌then◌else◌, Option, option_map}
 use Rattle.smart_base.specs.Lists.{or_else}
 use Rattle.disk_model.specs.Cells.{Cells, put}
 use Rattle.store_laws.specs.Restored.{Images}
-use Rattle.store_laws.specs.States.{StoreState}
+use Rattle.store_laws.specs.States.{StoreState, is_torn}
 use Rattle.world_rules.specs.Wrong.{wrong_in}
 use Rattle.world_rules.specs.declared.crash.Image.{Image}
 use Rattle.world_rules.specs.declared.crash.Image.TheVariants.{Old, New}
@@ -48,14 +48,14 @@ wrong_images s left =
 
 -- ---- the book that it leaves
 
--- a store that has not closed the gate that an earlier crash left torn or absent after the groups of its log
+-- a store that has not closed a gate that an earlier crash left: one that is torn or absent after the groups of its log, or a torn one of a slot
 abbrev pub is_unclosed : StoreState → Bool
-is_unclosed s = s.torn
+is_unclosed s = s.torn || (is_torn s.even || is_torn s.odd)
 
--- the book of which a crash now leaves the first entries: this life's, or the earlier one's until the torn gate is closed
+-- the book of which a crash now leaves a front: what this life has written, or an earlier one until no gate is torn
 abbrev pub written_book : {A : Type 0} → StoreState → List A → List A → List A
 written_book s book aside = if is_unclosed s then aside else book
 
--- the book of the earlier life, until the torn gate is closed; then it is lost
+-- the book of the earlier life, until no gate is torn; then it is lost
 abbrev pub still_aside : {A : Type 0} → StoreState → List A → List A
 still_aside s aside = if is_unclosed s then aside else []

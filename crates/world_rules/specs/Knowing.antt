@@ -8,9 +8,10 @@ use Rattle.world_rules.specs.declared.line.OutLine.TheVariants as outs
 abbrev pub place_told : ℕ → OutLine → ℕ
 place_told client (outs.Accepted c seq place index reply) = if c == client then place else 0
 place_told client (outs.Learned c place) = if c == client then place else 0
-place_told client (outs.Group members faulty app) = 0
+place_told client (outs.Group members faulty app period) = 0
 place_told client (outs.Sent number origin summary) = 0
 place_told client (outs.Decided member place) = 0
+place_told client (outs.Installed member place) = 0
 place_told client (outs.Delivered member place executed) = 0
 place_told client (outs.Promised member number regency) = 0
 place_told client (outs.Synced member number regency base bound) = 0

@@ -5,6 +5,7 @@ pub mod Clients
 pub mod Repeats
 pub mod Wrong
 pub mod Crashes
+pub mod Fronts
 pub mod Worlds
 pub mod Plays
 pub mod Knowing

@@ -1,13 +1,13 @@
 -- The play of a script's lines.
 use Rattle.std.specs.Prelude.{ℕ, ◌≡◌, nat_le, Bool, true, false, ◌&&◌, List, [], ◌∷◌, ◌++◌, length, None, is_some}
 use Rattle.std.specs.List.{list_all}
-use Rattle.smart_base.specs.Views.{View}
 use Rattle.smart_service.specs.Services.{Meaning}
 use Rattle.smart_base.specs.declared.party.Party.{Party}
 use Rattle.smart_base.specs.declared.party.Party.TheVariants as parties
 use Rattle.world_rules.specs.Worlds.{World, Course, asks, repeats, tells, calls_disk, crashes, crash_all, restart_member, restart_all, settle, settle_all, flows, host_index, at_member, give_number, deliver_each, tick_each, shows, declares_faulty, declares_rogue, injects, begun}
 use Rattle.world_rules.specs.Repeats.{repeated}
 use Rattle.world_rules.specs.Injections.{injected_bytes}
+use Rattle.world_rules.specs.declared.line.Header.{Header}
 use Rattle.world_rules.specs.declared.line.Line.{Line}
 use Rattle.world_rules.specs.declared.line.Line.TheVariants as lines
 use Rattle.world_rules.specs.declared.line.OutLine.{OutLine}
@@ -79,9 +79,9 @@ abbrev pub lines_told : {S : Type 0} → Course S → World S → List Line → 
 lines_told course w [] = []
 lines_told course w (l ∷ ls) = (line_played course w l).told ++ lines_told course (rested (line_played course w l)) ls
 
--- a play: the group's first view, the lines that were played, the world after them, and whether the play is over
+-- a play: what the header states of its group, the lines that were played, the world after them, and whether the play is over
 pub record Play (S : Type 0) : Type 0 where
-  pub group : View
+  pub group : Header
   pub lines : List Line
   pub world : World S
   pub over : Bool

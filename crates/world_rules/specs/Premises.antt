@@ -1,5 +1,5 @@
--- The premises of a play, which are checked when members are declared faulty and when messages get their numbers.
-use Rattle.std.specs.Prelude.{ℕ, ◌==◌, nat_lt, Bool, false, not, ◌&&◌, List, [], length, filter, map, option_to_list}
+-- The premises of a play. They are checked when members are declared faulty, when messages get their numbers, and when snapshots are marked.
+use Rattle.std.specs.Prelude.{ℕ, ◌==◌, nat_lt, Bool, false, not, ◌&&◌, List, [], ◌∷◌, ◌++◌, length, filter, map, if◌then◌else◌, option_to_list}
 use Rattle.std.specs.List.{flat_map, list_any}
 use Rattle.smart_base.specs.Lists.{same_bytes}
 use Rattle.smart_base.specs.Views.{View}
@@ -83,8 +83,8 @@ is_forgery faulty rogue sent c = not (is_excused faulty rogue c.signer) && not (
 unfoldable pub is_forged : List ℕ → List ℕ → List Sent → Content → Bool
 is_forged faulty rogue sent content = list_any (is_forgery faulty rogue sent) (claims content)
 
--- The third premise: no two different texts that were met have one digest. INTERIM(checkpoints): the texts of batches alone are met; those of
--- snapshots follow, by the same words.
+-- The third premise: no two different texts that were met have one digest. Messages bring the texts of batches. Nodes mark snapshots, and join
+-- others of parts.
 
 -- the batches in a message
 abbrev pub batches_in : Message → List Batch
@@ -113,6 +113,23 @@ clash a b = same_bytes (digest a) (digest b) && not (same_bytes a b)
 -- texts of which one clashes with one that was met before them
 unfoldable pub collides : List (List ℕ) → List (List ℕ) → Bool
 collides before texts = list_any (λ text. list_any (clash text) before) texts
+
+-- the texts that were met: those in all messages that were sent, and the snapshots that were met as nodes marked them
+abbrev pub texts_met : List Sent → List (List ℕ) → List (List ℕ)
+texts_met sent marked = met sent ++ marked
+
+-- a text that is new: none that was met before it has its digest
+unfoldable pub newly_met : List (List ℕ) → List ℕ → Bool
+newly_met before text = not (list_any (λ other. same_bytes (digest text) (digest other)) before)
+
+-- The snapshots that were met, with one more if it is new. An equal one is not met again. One that clashes is not met.
+abbrev pub marked_with : List Sent → List (List ℕ) → List ℕ → List (List ℕ)
+marked_with sent marked snapshot = if newly_met (texts_met sent marked) snapshot then marked ++ snapshot ∷ [] else marked
+
+-- the snapshots that were met, with those of several more that are new, in order
+abbrev pub all_marked : List Sent → List (List ℕ) → List (List ℕ) → List (List ℕ)
+all_marked sent marked [] = marked
+all_marked sent marked (s ∷ ss) = all_marked sent (marked_with sent marked s) ss
 
 -- the bytes that arrive when a content is given
 abbrev pub bytes_of : Content → List ℕ

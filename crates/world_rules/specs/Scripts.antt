@@ -1,12 +1,12 @@
 -- The meaning of a script's lines, or the kind of what is wrong with them.
-use Rattle.std.specs.Prelude.{ℕ, zero, suc, ◌+◌, ◌-◌, ◌*◌, ◌^◌, option_map, get_or, drop, replicate, ◌++◌, ◌==◌, nat_le, Bool, true, not, ◌&&◌, List, [], ◌∷◌, length, take, if◌then◌else◌, Option, Some, None, Result, Ok, Err, codes}
+use Rattle.std.specs.Prelude.{ℕ, zero, suc, ◌+◌, ◌-◌, ◌*◌, ◌^◌, option_map, get_or, drop, replicate, ◌++◌, ◌==◌, nat_le, Bool, true, false, not, ◌&&◌, List, [], ◌∷◌, length, take, if◌then◌else◌, Option, Some, None, Result, Ok, Err, codes}
 use Rattle.std.specs.List.{list_all}
 use Rattle.smart_base.specs.Decimals.{number_of}
 use Rattle.smart_base.specs.Lists.{same_bytes}
 use Rattle.smart_base.specs.Views.{View}
 use Rattle.smart_base.specs.declared.party.Party.{Party}
 use Rattle.smart_base.specs.declared.party.Party.TheVariants as parties
-use Rattle.smart_base.specs.declared.limits.TheConstants.{FAULTY, LAST_CLIENT, LINE_BYTES, MEMBERS, MESSAGES, PAYLOAD_BYTES}
+use Rattle.smart_base.specs.declared.limits.TheConstants.{FAULTY, LAST_CLIENT, LAST_PERIOD, MARKS, LINE_BYTES, MEMBERS, MESSAGES, PAYLOAD_BYTES}
 use Rattle.world_rules.specs.declared.line.App.{App}
 use Rattle.world_rules.specs.declared.line.App.TheVariants as apps
 use Rattle.smart_statements.specs.declared.statement.Slot.{Slot}
@@ -437,6 +437,45 @@ mark_form words =
     then form_of (λ ns. mark_behind ns (drop 2 words)) (numbers_in (members ∷ places ∷ []) words)
     else Err kinds.Count
 
+-- the range of places from 0 on
+abbrev pub early_places : Range
+early_places = range 0 (2 ^ 63 - 1)
+
+-- stateask M Q FETCH
+abbrev pub stateask_form : List (List ℕ) → Result Injection Kind
+stateask_form words =
+    if length words == 3
+    then form_of (λ ns. Ok (forms.StateAsk (nth ns 0) (nth ns 1) (nth ns 2))) (numbers_in (members ∷ early_places ∷ early_places ∷ []) words)
+    else Err kinds.Count
+
+abbrev pub offer_with : List ℕ → Option (List ℕ) → Result Injection Kind
+offer_with ns None = Err kinds.Number
+offer_with ns (Some numbers) = Ok (forms.Offer (nth ns 0) (nth ns 1) (nth ns 2) numbers)
+
+-- offer M K SIZE NUM..: at most 64 marks
+abbrev pub offer_form : List (List ℕ) → Result Injection Kind
+offer_form words =
+    if nat_le 3 (length words) && nat_le (length words) (3 + MARKS)
+    then form_of (λ ns. offer_with ns (each_word (number_in 1 MESSAGES) (drop 3 words))) (numbers_in (members ∷ early_places ∷ small_numbers ∷ []) words)
+    else Err kinds.Count
+
+abbrev pub part_with : List ℕ → Option (List ℕ) → Result Injection Kind
+part_with ns None = Err kinds.Form
+part_with ns (Some []) = Err kinds.Form
+part_with ns (Some (b ∷ bs)) = Ok (forms.Part (nth ns 0) (nth ns 1) (nth ns 2) (b ∷ bs))
+
+-- HEX: one byte or more
+abbrev pub part_behind : List ℕ → List (List ℕ) → Result Injection Kind
+part_behind ns [] = Err kinds.Count
+part_behind ns (word ∷ words) = part_with ns (hex_bytes word)
+
+-- part K INDEX TOTAL HEX
+abbrev pub part_form : List (List ℕ) → Result Injection Kind
+part_form words =
+    if length words == 4
+    then form_of (λ ns. part_behind ns (drop 3 words)) (numbers_in (places ∷ small_numbers ∷ small_numbers ∷ []) words)
+    else Err kinds.Count
+
 -- raw HEX: one byte or more
 abbrev pub raw_by : Option (List ℕ) → Result Injection Kind
 raw_by None = Err kinds.Form
@@ -461,6 +500,9 @@ form_by bytes (word ∷ words) =
     else if same_bytes word (codes "sync") then sync_form words
     else if same_bytes word (codes "reply") then reply_form bytes words
     else if same_bytes word (codes "mark") then mark_form words
+    else if same_bytes word (codes "stateask") then stateask_form words
+    else if same_bytes word (codes "offer") then offer_form words
+    else if same_bytes word (codes "part") then part_form words
     else if same_bytes word (codes "raw") then raw_form words
     else Err kinds.Word
 
@@ -532,3 +574,19 @@ app_line bytes =
     if same_bytes bytes (codes "app count") then Some apps.Count
     else if same_bytes bytes (codes "app kv") then Some apps.Kv
     else None
+
+-- a line whose first word is `period`
+abbrev pub is_period : List (List ℕ) → Bool
+is_period [] = false
+is_period (word ∷ words) = same_bytes word (codes "period")
+
+-- the number that the only other word of the line `period P` states: from the number of members to 1,048,576
+abbrev pub period_words : ℕ → List (List ℕ) → Option ℕ
+period_words least [] = None
+period_words least (word ∷ []) = None
+period_words least (word ∷ number ∷ []) = number_in least LAST_PERIOD number
+period_words least (word ∷ number ∷ more ∷ words) = None
+
+-- the period that the line `period P` states in a group of so many members, if it states one; nothing at all, if it is another line
+unfoldable pub period_line : ℕ → List ℕ → Option (Option ℕ)
+period_line least bytes = if is_period (words_in bytes) then Some (period_words least (words_in bytes)) else None

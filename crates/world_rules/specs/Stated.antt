@@ -1,9 +1,12 @@
 -- What has been stated in a world, what became firm at its members, and the decisions among what has been stated.
-use Rattle.std.specs.Prelude.{ℕ, ◌≡◌, true, false, List, [], take, map, Option, Some, None}
+use Rattle.std.specs.Prelude.{ℕ, ◌≡◌, ◌<◌, true, false, List, [], take, map, Option, Some, None}
 use Rattle.smart_base.specs.Lists.{Each}
+use Rattle.vote_book.specs.Books.{HasMade}
 use Rattle.vote_book.specs.Entries.{entry_text}
+use Rattle.book_laws.specs.BookCuts.{cut_at}
 use Rattle.store_laws.specs.Restored.{restores}
 use Rattle.world_rules.specs.Crashes.{bytes_held}
+use Rattle.world_rules.specs.Fronts.{checkpoint_place}
 use Rattle.std.specs.List.{flat_map}
 use Rattle.smart_base.specs.Views.{View}
 use Rattle.smart_statements.specs.Batches.{Batch}
@@ -42,11 +45,14 @@ diary w member = diary_of (host_of w.hosts member)
 abbrev pub AreDecided : List Statement → View → List Batch → Type 0
 AreDecided stated view batches = AllCertified group_secret digest_of stated (λ front. view) [] batches
 
--- A host with its diary. While its node runs, the diary is the firm part of the node's book. After its member has crashed, the diary is
--- what the devices restore, no more and no less. INTERIM(checkpoints): later the book and the devices hold the cut of the diary.
+-- A host with its diary. While its node runs, the firm part of the node's book is the cut of the diary at the place of the checkpoint with
+-- which this life began, 0 without one. After its member has crashed, the devices restore the cut of the diary at the place of their newest
+-- checkpoint, no more and no less. The diary has made either place, if it is not 0.
 pub record HasDiary {S : Type 0} (h : Host S) : Type 0 where
-  pub up : h.up ≡ true → h.life.diary ≡ take h.node.firm h.node.entries
-  pub down : h.up ≡ false → (restores (bytes_held h.store)).entries ≡ map entry_text h.life.diary
+  pub up : h.up ≡ true → take h.node.firm h.node.entries ≡ cut_at h.node.opening h.life.diary
+  pub up_made : h.up ≡ true → 0 < h.node.opening → HasMade h.life.diary h.node.opening
+  pub down : h.up ≡ false → (restores (bytes_held h.store)).entries ≡ map entry_text (cut_at (checkpoint_place (restores (bytes_held h.store)).present) h.life.diary)
+  pub down_made : h.up ≡ false → 0 < checkpoint_place (restores (bytes_held h.store)).present → HasMade h.life.diary (checkpoint_place (restores (bytes_held h.store)).present)
 
 -- A world in which the diaries of members witness what they have stated. Each chosen batch has a decision among what has been stated.
 pub record IsWitnessed {S : Type 0} (w : World S) : Type 0 where

@@ -2,18 +2,16 @@
 use Rattle.std.specs.Prelude.{ℕ, List, [], ◌∷◌, ◌++◌, codes, nat_lt, nat_le, ◌&&◌, ◌==◌, not, ◌+◌, ◌/◌, ◌%◌, length, if◌then◌else◌}
 use Rattle.std.specs.List.{flat_map}
 use Rattle.std.specs.Fmt.{decimal}
-use Rattle.smart_base.specs.Views.{View}
-use Rattle.smart_base.specs.declared.limits.TheConstants.{PERIOD}
 use Rattle.message_words.specs.Words.{after_space, bound_text, summary_text}
 use Rattle.node_rules.specs.declared.node.Why.{Why}
 use Rattle.node_rules.specs.declared.node.Why.TheVariants as whys
 use Rattle.client_quorum.specs.declared.client.Ignored.{Ignored}
 use Rattle.client_quorum.specs.declared.client.Ignored.TheVariants as reasons
-use Rattle.world_rules.specs.Secrets.{period}
 use Rattle.world_rules.specs.declared.message.Origin.{Origin}
 use Rattle.world_rules.specs.declared.message.Origin.TheVariants as origins
 use Rattle.world_rules.specs.declared.line.App.{App}
 use Rattle.world_rules.specs.declared.line.App.TheVariants as apps
+use Rattle.world_rules.specs.declared.line.Header.{Header}
 use Rattle.world_rules.specs.declared.line.OutLine.{OutLine}
 use Rattle.world_rules.specs.declared.line.OutLine.TheVariants as outs
 
@@ -62,9 +60,10 @@ abbrev pub shown : ℕ → List ℕ
 shown b = if nat_le 32 b && nat_le b 126 && not (b == 92) then b ∷ [] else 92 ∷ 120 ∷ hex_digit (b / 16) ∷ hex_digit (b % 16) ∷ []
 
 abbrev pub words_of : OutLine → List ℕ
-words_of (outs.Group n f app) = codes "group" ++ (after_space n ++ (after_space f ++ (32 ∷ app_text app ++ after_space period)))
+words_of (outs.Group n f app period) = codes "group" ++ (after_space n ++ (after_space f ++ (32 ∷ app_text app ++ after_space period)))
 words_of (outs.Sent number origin summary) = codes "sent" ++ (after_space number ++ (32 ∷ origin_text origin ++ (32 ∷ summary_text summary)))
 words_of (outs.Decided id k) = codes "decided n" ++ (decimal id ++ after_space k)
+words_of (outs.Installed id k) = codes "installed n" ++ (decimal id ++ after_space k)
 words_of (outs.Delivered id k count) = codes "delivered n" ++ (decimal id ++ (after_space k ++ after_space count))
 words_of (outs.Promised id v r) = codes "promised n" ++ (decimal id ++ (after_space v ++ after_space r))
 words_of (outs.Synced id v r base bound) = codes "synced n" ++ (decimal id ++ (after_space v ++ (after_space r ++ (after_space base ++ bound_text bound))))
@@ -93,5 +92,5 @@ abbrev pub text_of : List OutLine → List ℕ
 text_of lines = flat_map line_text lines
 
 -- the line that tells the header of a script
-abbrev pub header_line : View → App → OutLine
-header_line view app = outs.Group (length view.members) view.f app
+abbrev pub header_line : Header → App → OutLine
+header_line g app = outs.Group (length g.view.members) g.view.f app g.period

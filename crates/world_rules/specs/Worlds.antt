@@ -1,5 +1,5 @@
 -- The world of a play: hosts, clients, everything that was sent, and the chosen list of batches. An event makes a new world of it.
-use Rattle.std.specs.Prelude.{ℕ, zero, suc, ◌+◌, ◌^◌, ◌==◌, nat_lt, take, not, ◌||◌, false, List, [], ◌∷◌, ◌++◌, length, map, drop, if◌then◌else◌, Option, Some, None, is_some, slice_get, slice_set, Result, Ok, Err, nat_le, ◌&&◌, ◌-◌, Bool, true}
+use Rattle.std.specs.Prelude.{ℕ, zero, suc, ◌+◌, ◌^◌, ◌==◌, nat_lt, take, not, ◌||◌, false, List, [], ◌∷◌, ◌++◌, length, map, drop, if◌then◌else◌, Option, Some, None, is_some, option_map, slice_get, slice_set, Result, Ok, Err, nat_le, ◌&&◌, ◌-◌, Bool, true}
 use Rattle.std.specs.List.{flat_map, list_any, position}
 use Rattle.smart_base.specs.Lists.{or_else}
 use Rattle.smart_base.specs.Views.{View}
@@ -18,15 +18,21 @@ use Rattle.smart_statements.specs.declared.entry.NodeEvent.{NodeEvent}
 use Rattle.smart_statements.specs.declared.entry.NodeEvent.TheVariants.{Arrive, Tick, Deliver, Firm}
 use Rattle.smart_base.specs.declared.party.Party.{Party}
 use Rattle.smart_base.specs.declared.party.Party.TheVariants as parties
-use Rattle.smart_base.specs.declared.limits.TheConstants.{CLIENTS, MESSAGES, PAYLOAD_BYTES, PERIOD}
+use Rattle.smart_base.specs.declared.limits.TheConstants.{CLIENTS, MESSAGES, PAYLOAD_BYTES}
 use Rattle.smart_service.specs.Services.{Meaning}
 use Rattle.replica_rules.specs.Seals.{signed}
 use Rattle.node_rules.specs.Nodes.{Node, next_place, view_of, regency_of}
-use Rattle.node_rules.specs.Deliveries.{delivery_in}
+use Rattle.node_rules.specs.Deliveries.{Segment, segment_after}
 use Rattle.node_rules.specs.Steps.{Outcome, Outset, step_of, leaving, released, opened, outset}
 use Rattle.node_rules.specs.Kept.{core_step}
+use Rattle.node_rules.specs.Transfers.{completed_by}
+use Rattle.node_rules.specs.Marks.{wanted}
+use Rattle.vote_book.specs.Books.{number_or}
+use Rattle.node_rules.specs.Tails.{tail_of}
 use Rattle.node_rules.specs.declared.node.Why.{Why}
 use Rattle.node_rules.specs.declared.node.Held.{Held}
+use Rattle.node_rules.specs.declared.node.OwnSnapshot.{OwnSnapshot}
+use Rattle.node_rules.specs.declared.node.Parts.{Parts}
 use Rattle.node_rules.specs.declared.node.Target.{Target}
 use Rattle.node_rules.specs.declared.node.Target.TheVariants as targets
 use Rattle.node_rules.specs.declared.node.Delivery.{Delivery}
@@ -35,17 +41,21 @@ use Rattle.node_rules.specs.declared.node.Fired.TheVariants as fires
 use Rattle.vote_book.specs.Entries.{entry_text}
 use Rattle.vote_book.specs.declared.entry.LogEntry.{LogEntry}
 use Rattle.store_laws.specs.Restored.{Images, restores}
-use Rattle.store_laws.specs.States.{StoreState, is_due, store_called, given, store_opened}
+use Rattle.store_laws.specs.States.{StoreState, is_due, wants_tail, store_called, given, asked, store_opened}
 use Rattle.store_laws.specs.Lives.{no_bytes}
-use Rattle.store_laws.specs.Unswitched.{never, no_tail}
+use Rattle.store_laws.specs.Stops.{is_installed}
+use Rattle.store_laws.specs.Unswitched.{no_tail}
+use Rattle.store_laws.specs.declared.job.Kept.{Kept}
+use Rattle.store_laws.specs.declared.job.Tail.{Tail}
 use Rattle.world_rules.specs.Crashes.{images_left, wrong_images, bytes_held, written_book, still_aside}
+use Rattle.world_rules.specs.Fronts.{count_kept}
 use Rattle.world_rules.specs.declared.crash.Image.{Image}
 use Rattle.world_rules.specs.declared.crash.Patch.{Patch}
 use Rattle.world_rules.specs.declared.crash.NotAnImage as stores
-use Rattle.node_rules.specs.Reopening.{reopened, damaged, entries_in}
+use Rattle.node_rules.specs.Reopening.{damage_of, reopened_from}
 use Rattle.world_rules.specs.Repeats.{until_rest, each_from}
-use Rattle.world_rules.specs.Secrets.{group_secret, period, outset_place}
-use Rattle.world_rules.specs.Premises.{is_among, too_many, is_forged, met, texts_in, collides, bytes_of}
+use Rattle.world_rules.specs.Secrets.{group_secret}
+use Rattle.world_rules.specs.Premises.{is_among, too_many, is_forged, texts_in, clash, collides, texts_met, marked_with, all_marked, bytes_of}
 use Rattle.world_rules.specs.Injections.{injected}
 use Rattle.client_quorum.specs.Clients.{fresh, request_of, asking, learning, after_heard, reply_read}
 use Rattle.world_rules.specs.Clients.{heard}
@@ -62,6 +72,7 @@ use Rattle.world_rules.specs.declared.message.Ending.TheVariants.{Limit, Premise
 use Rattle.world_rules.specs.declared.message.Premise.TheVariants.{TooManyFaulty, Forged, Collision, NotAnImage}
 use Rattle.world_rules.specs.declared.message.Content.{Content}
 use Rattle.world_rules.specs.declared.message.Content.TheVariants as contents
+use Rattle.world_rules.specs.declared.line.Header.{Header}
 use Rattle.world_rules.specs.declared.line.Injection.{Injection}
 use Rattle.world_rules.specs.declared.line.OutLine.{OutLine}
 use Rattle.world_rules.specs.declared.line.OutLine.TheVariants as outs
@@ -85,7 +96,7 @@ core_course m = record { step = core_step m; meaning = m; remembers = false }
 pub record Life : Type 0 where
   -- the diary: all entries that became firm in any life, and those that crashes brought back
   pub diary : List LogEntry
-  -- the book of the life that wrote past a gate which a crash left torn; empty if no gate is torn
+  -- what the life had written that wrote past a gate which a crash left torn; empty if no gate is torn
   pub aside : List LogEntry
 
 -- the host of a member: its node, its store, and its lives
@@ -94,11 +105,14 @@ pub record Host (S : Type 0) : Type 0 where
   pub node : Node S
   -- whether the node runs
   pub up : Bool
-  -- the store of the entries that the node writes
+  -- the store of what the node writes: its newest checkpoint, and the entries of its log
   pub store : StoreState
+  -- the place of the checkpoint to which the store switches, or last did in this life; 0 before the first
+  pub switching : ℕ
   -- what is written down of the member's lives
   pub life : Life
-  -- the place at which this life began, the batches that its steps delivered, and those that steps of earlier lives delivered
+  -- the present segment of deliveries: the place at which this life began or last took over a replica, the batches that its steps delivered
+  -- since, and those that earlier steps delivered
   pub resumed : ℕ
   pub delivered : List Delivery
   pub earlier : List Delivery
@@ -107,12 +121,16 @@ pub record Host (S : Type 0) : Type 0 where
 pub record World (S : Type 0) : Type 0 where
   -- the view that the group begins with
   pub view : View
+  -- the period: in so many places each member takes one checkpoint
+  pub period : ℕ
   -- the members' hosts, by ascending number
   pub hosts : List (Host S)
   -- the clients: client i is at index i
   pub clients : List Client
   -- everything that was sent or injected: message i is at index i - 1
   pub sent : List Sent
+  -- the snapshots that were met as nodes marked them, or as their last part came, each once
+  pub marked : List (List ℕ)
   -- the number of the last message that a flow has given
   pub mark : ℕ
   -- the chosen list: the batch that was decided first at each place, from 1
@@ -146,7 +164,7 @@ summary (contents.Raw bytes) = summaries.Raw
 -- also if no number is left.
 unfoldable pub posts : {S : Type 0} → World S → Sent → World S
 posts w s =
-    if collides (met w.sent) (texts_in s.content) then record w { ending = Some (Premise Collision) }
+    if collides (texts_met w.sent w.marked) (texts_in s.content) then record w { ending = Some (Premise Collision) }
     else if nat_lt (length w.sent) MESSAGES
     then record w {
       sent = w.sent ++ s ∷ [];
@@ -169,6 +187,38 @@ abbrev pub sends_all : {S : Type 0} → ℕ → View → World S → List Held �
 sends_all id view w [] = w
 sends_all id view w (h ∷ hs) = sends_all id view (sends w (origins.Node id) view h.to h.message) hs
 
+-- snapshots that are marked, or that parts complete
+
+-- the ending of a play in which one more snapshot is met: one that clashes with a text that was met before it ends the play
+abbrev pub ending_with : List Sent → List (List ℕ) → Option Ending → List ℕ → Option Ending
+ending_with sent marked ending snapshot = if list_any (clash snapshot) (texts_met sent marked) then Some (Premise Collision) else ending
+
+-- the ending of a play in which several more are met, in order
+abbrev pub all_ending : List Sent → List (List ℕ) → Option Ending → List (List ℕ) → Option Ending
+all_ending sent marked ending [] = ending
+all_ending sent marked ending (s ∷ ss) = all_ending sent (marked_with sent marked s) (ending_with sent marked ending s) ss
+
+-- the world after snapshots were met, in order
+abbrev pub meets : {S : Type 0} → World S → List (List ℕ) → World S
+meets w snapshots = record w { marked = all_marked w.sent w.marked snapshots; ending = all_ending w.sent w.marked w.ending snapshots }
+
+-- the snapshot that a rule reports as marked, if it is one
+abbrev pub snapshot_in : Fired → List (List ℕ)
+snapshot_in (fires.Installed place) = []
+snapshot_in fires.Spoiled = []
+snapshot_in (fires.Delivered d) = []
+snapshot_in (fires.Marked snapshot) = snapshot ∷ []
+snapshot_in (fires.Adopted s) = []
+snapshot_in fires.Joined = []
+snapshot_in (fires.Promised p) = []
+snapshot_in fires.Led = []
+snapshot_in fires.Proposed = []
+snapshot_in fires.Wrote = []
+snapshot_in fires.Accepted = []
+snapshot_in (fires.Decided place) = []
+snapshot_in fires.Timed = []
+snapshot_in fires.Answered = []
+
 -- events of a node
 
 -- the transcript line of a dropped message
@@ -178,7 +228,10 @@ told_drop id (Some why) = outs.Dropped id why ∷ []
 
 -- the transcript lines of an event that a rule reported
 abbrev pub told_fired : ℕ → Fired → List OutLine
+told_fired id (fires.Installed place) = outs.Installed id place ∷ []
+told_fired id fires.Spoiled = []
 told_fired id (fires.Delivered d) = outs.Delivered id d.place d.executed ∷ []
+told_fired id (fires.Marked snapshot) = []
 told_fired id (fires.Adopted s) = outs.Synced id s.view s.regency s.base (is_some s.bound) ∷ []
 told_fired id fires.Joined = []
 told_fired id (fires.Promised p) = outs.Promised id p.view p.regency ∷ []
@@ -199,7 +252,7 @@ chosen_with chosen place (Some batch) = if place == length chosen + 1 then chose
 abbrev pub spelled_behind : ℕ → List LogEntry → List (List ℕ)
 spelled_behind count entries = map entry_text (drop count entries)
 
--- the entries of a book behind so many first ones, up to a count
+-- the entries of a book after so many first ones, up to a count
 abbrev pub from_to : ℕ → ℕ → List LogEntry → List LogEntry
 from_to low high book = take (high - low) (drop low book)
 
@@ -211,25 +264,43 @@ life_firm l n later = record { diary = l.diary ++ from_to n.firm later.firm late
 abbrev pub remembered : {S : Type 0} → Course S → Life → Life → Life
 remembered course old new = if course.remembers then new else old
 
--- the host after a step: the node lets go what may leave, and its new entries wait in the store
+-- the snapshot to which a node wants its store to switch since a step: the last that it took, if it took one in that step
+abbrev pub newly_wanted : {S : Type 0} → Node S → Node S → Option OwnSnapshot
+newly_wanted before later = if nat_lt (length before.taken) (length later.taken) then wanted later else None
+
+-- a store that is asked to switch to a snapshot, if there is one
+abbrev pub asking_for : Option OwnSnapshot → StoreState → StoreState
+asking_for None s = s
+asking_for (Some own) s = asked own.snapshot s
+
+-- the present segment of a host's deliveries
+abbrev pub segment_of : {S : Type 0} → Host S → Segment
+segment_of h = record { began = h.resumed; delivered = h.delivered; earlier = h.earlier }
+
+-- the host after a step: the node lets go what may leave, and its new entries wait in the store. If it took a checkpoint, be it its own or that
+-- of others, the store is asked to switch to it.
 abbrev pub host_after : {S : Type 0} → Course S → Host S → Outcome S → Host S
 host_after course h o = record h {
   node = released o.node;
-  store = given (spelled_behind (length h.node.entries) o.node.entries) h.store;
+  store = asking_for (newly_wanted h.node o.node) (given (spelled_behind (length h.node.entries) o.node.entries) h.store);
   life = remembered course h.life (life_firm h.life h.node o.node);
-  delivered = h.delivered ++ flat_map delivery_in o.fired;
+  resumed = (segment_after (segment_of h) o.fired).began;
+  delivered = (segment_after (segment_of h) o.fired).delivered;
+  earlier = (segment_after (segment_of h) o.fired).earlier;
 }
 
 -- The world after a step of a node. Its transcript tells the step's events first, and then the messages that leave. The view is the node's
--- behind the step.
+-- after the step. What the step marks is met before the messages get their numbers.
 unfoldable pub stepped : {S : Type 0} → Course S → World S → ℕ → Host S → Outcome S → World S
 stepped course w i h o =
     sends_all h.node.id (view_of o.node)
+    (meets
     (record w {
       hosts = slice_set w.hosts i (host_after course h o);
       chosen = chosen_with w.chosen (next_place o.node) o.node.waiting;
       told = w.told ++ (told_drop h.node.id o.dropped ++ flat_map (told_fired h.node.id) o.fired);
     })
+    (flat_map snapshot_in o.fired))
     (leaving o.node.firm o.node.held)
 
 -- a member that is faulty, whose node is gone
@@ -244,10 +315,18 @@ is_rogue w client = is_among w.rogue client
 abbrev pub is_up : {S : Type 0} → World S → Host S → Bool
 is_up w h = h.up && not (is_gone w h.node.id)
 
+-- The world after an event at a host whose node runs. The text that the event completes is met first. If it clashes with one that was met, the
+-- play ends, and the node does not take the event.
+abbrev pub steps_unless : {S : Type 0} → Course S → ℕ → NodeEvent → World S → Host S → World S
+steps_unless course i event w h = if is_halted w then w else stepped course w i h (course.step h.node event)
+
+abbrev pub takes_met : {S : Type 0} → Course S → ℕ → NodeEvent → World S → Host S → World S
+takes_met course i event w h = steps_unless course i event (meets w (completed_by h.node event)) h
+
 -- the world after an event at a host; nothing happens if its node does not run
 abbrev pub host_takes : {S : Type 0} → Course S → ℕ → NodeEvent → World S → Option (Host S) → World S
 host_takes course i event w None = w
-host_takes course i event w (Some h) = if not (is_up w h) then w else stepped course w i h (course.step h.node event)
+host_takes course i event w (Some h) = if not (is_up w h) then w else takes_met course i event w h
 
 -- the world after an event at the node at an index; nothing happens after the play has ended
 unfoldable pub node_takes : {S : Type 0} → Course S → ℕ → NodeEvent → World S → World S
@@ -257,9 +336,30 @@ node_takes course i event w = if is_halted w then w else host_takes course i eve
 abbrev pub life_called : Life → StoreState → Life
 life_called l s = record { diary = l.diary; aside = still_aside s l.aside }
 
+-- the tail that a node's store writes beside a checkpoint of a place
+abbrev pub log_tail : {S : Type 0} → Node S → ℕ → Tail
+log_tail n place = record { made = (tail_of n place).made; entries = (tail_of n place).entries }
+
+-- the tail that a host's store writes at its next device call, if that call writes one
+abbrev pub tail_due : {S : Type 0} → Host S → Tail
+tail_due h = if wants_tail h.store then log_tail h.node h.switching else no_tail
+
+-- the place of an own snapshot; 0 if there is none
+abbrev pub place_of_own : Option OwnSnapshot → ℕ
+place_of_own own = number_or (option_map (λ x. x.place) own) 0
+
+-- The place of the checkpoint to which a host's store switches, after a device call. If a switch waited and waits no more, it has begun: it is
+-- that of the snapshot which the node wants.
+abbrev pub switching_after : {S : Type 0} → Host S → StoreState → ℕ
+switching_after h s = if is_some h.store.asked && not (is_some s.asked) then place_of_own (wanted h.node) else h.switching
+
+-- the store of a host after its next device call
+abbrev pub store_after : {S : Type 0} → Host S → StoreState
+store_after h = store_called is_installed (tail_due h) h.store
+
 -- the host after its store has made its next device call
 unfoldable pub disk_called : {S : Type 0} → Course S → Host S → Host S
-disk_called course h = record h { store = store_called never no_tail h.store; life = remembered course h.life (life_called h.life (store_called never no_tail h.store)) }
+disk_called course h = record h { store = store_after h; switching = switching_after h (store_after h); life = remembered course h.life (life_called h.life (store_after h)) }
 
 -- the world after a device call: the node hears how many entries of its life are firm, if they are more than it knows
 abbrev pub hears_firm : {S : Type 0} → Course S → ℕ → World S → Host S → World S
@@ -273,7 +373,7 @@ abbrev pub host_calls : {S : Type 0} → Course S → ℕ → World S → Option
 host_calls course i w None = w
 host_calls course i w (Some h) =
     if not (is_up w h) then w
-    else if is_due never h.store then hears_firm course i w (disk_called course h)
+    else if is_due is_installed h.store then hears_firm course i w (disk_called course h)
     else w
 
 -- the world after the store at an index made its next device call, if one is due; its node hears what is firm then
@@ -284,7 +384,7 @@ calls_disk course i w = if is_halted w then w else host_calls course i w (slice_
 abbrev pub takes_due : {S : Type 0} → Course S → ℕ → World S → Option (Host S) → World S
 takes_due course i w None = w
 takes_due course i w (Some h) =
-    if is_due never h.store then calls_disk course i w
+    if is_due is_installed h.store then calls_disk course i w
     else if is_some h.node.waiting then node_takes course i Deliver w
     else w
 
@@ -512,11 +612,11 @@ tick_each course members w = tries_each course Tick members w
 abbrev pub with_front : List LogEntry → ℕ → List LogEntry → List LogEntry
 with_front diary count book = diary ++ drop (length diary) (take count book)
 
--- The life of a member after a crash. The bytes left restore the first entries of one book: this life's, or an earlier one's until a torn
--- gate is closed. The diary gains what it lacks of these entries. If a gate is torn now, that book is put aside. INTERIM(checkpoints): later
--- these entries count from the cut of the diary.
+-- The life of a member after a crash. The bytes left restore a front of one book, cut at the place of a checkpoint: of what this life has
+-- written, or of an earlier one until no gate is torn. The diary gains what it lacks of this front. If a gate is torn now, that book is put
+-- aside.
 abbrev pub life_left : Life → List LogEntry → Images → Life
-life_left l book left = record { diary = with_front l.diary (length (restores left).entries) book; aside = still_aside (store_opened left) book }
+life_left l book left = record { diary = with_front l.diary (count_kept left book) book; aside = still_aside (store_opened left) book }
 
 -- what the diary of a host's member would be, if all entries of its node became firm
 abbrev pub written : {S : Type 0} → Host S → List LogEntry
@@ -553,9 +653,17 @@ crash_all course image w = each_from (crashes course image []) (length w.hosts) 
 
 -- restart: a node starts again from what its devices hold (recovery: Dura-SMaRt, USENIX ATC 2013)
 
--- what a member of a play begins from, at the first opening of its book and at each restart
-abbrev pub outset_of : {S : Type 0} → Meaning S → View → ℕ → Outset S
-outset_of m view id = outset m group_secret id view period
+-- what a member of a play begins from, at the first opening of its book
+abbrev pub outset_of : {S : Type 0} → Meaning S → View → ℕ → ℕ → Outset S
+outset_of m view period id = outset m group_secret id view period
+
+-- what devices give a node: the snapshot of their newest checkpoint, if there is one, and the entries of the log after it
+abbrev pub parts_of : Kept → Parts
+parts_of kept = record { snapshot = option_map (λ x. x.snapshot) kept.present; entries = kept.entries }
+
+-- what a host's devices give its node at a restart
+abbrev pub parts_held : {S : Type 0} → Host S → Parts
+parts_held h = parts_of (restores (bytes_held h.store))
 
 -- the host after a restart; if nothing was restored, the node opens a new book
 abbrev pub host_resumed : {S : Type 0} → Host S → Node S → Host S
@@ -563,24 +671,25 @@ host_resumed h n = record h {
   node = n;
   up = true;
   store = given (spelled_behind n.restored n.entries) h.store;
+  switching = 0;
   resumed = n.replica.place;
   delivered = [];
   earlier = h.earlier ++ h.delivered;
 }
 
--- the world after a restart from restored bytes. Damaged bytes change nothing; a member's own store never holds any.
-abbrev pub resumes_from : {S : Type 0} → Course S → ℕ → World S → Host S → List (List ℕ) → Option ℕ → World S
-resumes_from course i w h restored (Some entry) = w
-resumes_from course i w h restored None =
-    let n : Node _ = reopened course.meaning (outset_of course.meaning w.view h.node.id) (entries_in restored) in
-    telling (record w { hosts = slice_set w.hosts i (host_resumed h n) }) (outs.Restarted h.node.id n.replica.place (length restored))
+-- the world after a restart from restored parts. Damaged ones change nothing; a member's own store never holds any.
+abbrev pub resumes_from : {S : Type 0} → Course S → ℕ → World S → Host S → Parts → Option ℕ → World S
+resumes_from course i w h parts (Some damage) = w
+resumes_from course i w h parts None =
+    let n : Node _ = reopened_from course.meaning group_secret h.node.id w.view w.period parts in
+    telling (record w { hosts = slice_set w.hosts i (host_resumed h n) }) (outs.Restarted h.node.id n.replica.place (length parts.entries))
 
 -- the world after a restart at a host, if its node does not run and its member is not faulty
 abbrev pub host_resumes : {S : Type 0} → Course S → ℕ → World S → Option (Host S) → World S
 host_resumes course i w None = w
 host_resumes course i w (Some h) =
     if h.up || is_gone w h.node.id then w
-    else resumes_from course i w h (restores (bytes_held h.store)).entries (damaged group_secret outset_place w.view (restores (bytes_held h.store)).entries)
+    else resumes_from course i w h (parts_held h) (damage_of course.meaning group_secret w.view (parts_held h))
 
 -- the world after a restart of the member at an index
 unfoldable pub resumes : {S : Type 0} → Course S → ℕ → World S → World S
@@ -661,6 +770,7 @@ host_of_node n = record {
   node = n;
   up = true;
   store = given (spelled_behind 0 n.entries) (store_opened no_bytes);
+  switching = 0;
   life = record { diary = []; aside = [] };
   resumed = 0;
   delivered = [];
@@ -668,9 +778,9 @@ host_of_node n = record {
 }
 
 -- the hosts of new nodes, for some members
-abbrev pub hosts_from : {S : Type 0} → Meaning S → View → List ℕ → List (Host S)
-hosts_from m view [] = []
-hosts_from m view (id ∷ ids) = host_of_node (opened (outset_of m view id)) ∷ hosts_from m view ids
+abbrev pub hosts_from : {S : Type 0} → Meaning S → View → ℕ → List ℕ → List (Host S)
+hosts_from m view period [] = []
+hosts_from m view period (id ∷ ids) = host_of_node (opened (outset_of m view period id)) ∷ hosts_from m view period ids
 
 -- clients that have not asked: so many, from a number on
 unfoldable pub clients_from : ℕ → ℕ → List Client
@@ -678,13 +788,15 @@ clients_from zero i = []
 clients_from (suc count) i = fresh i ∷ clients_from count (i + 1)
 
 -- the world before the first line of a script
-abbrev pub begun : {S : Type 0} → Meaning S → View → World S
-begun m view =
+abbrev pub begun : {S : Type 0} → Meaning S → Header → World S
+begun m g =
     record {
-      view = view;
-      hosts = hosts_from m view view.members;
+      view = g.view;
+      period = g.period;
+      hosts = hosts_from m g.view g.period g.view.members;
       clients = clients_from CLIENTS 0;
       sent = [];
+      marked = [];
       mark = 0;
       chosen = [];
       accepted = [];

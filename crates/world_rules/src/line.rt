@@ -9,6 +9,7 @@ use smart_base::name::{ClientId, MemberId};
 use smart_base::number::{Place, Regency, ViewNo};
 use smart_base::party::Party;
 use smart_base::sequence::{Bytes, Sequence};
+use smart_base::view::View;
 use smart_statements::statement::{Answer, Slot, VoteKind};
 
 /// The service that a script's header names.
@@ -18,6 +19,20 @@ pub enum App {
     Count,
     /// Values by keys.
     Kv,
+}
+
+/// What the header of a script states of its group: the first view, and the period. In so many places
+/// each member takes one checkpoint.
+pub struct Header {
+    pub view: View,
+    pub period: u32,
+}
+
+/// Let go by one call, so that no function that lets one go carries the whole of it.
+impl Drop for Header {
+    fn drop(self) {
+        let Header { view: _, period: _ } = self;
+    }
 }
 
 /// A script line after the header.
@@ -156,6 +171,26 @@ pub enum Injection {
         place: Place,
         digest: Digest32,
     },
+    /// `stateask M Q FETCH`: a STATEASK of a member at a place.
+    StateAsk {
+        member: MemberId,
+        place: Place,
+        fetch: Place,
+    },
+    /// `offer M K SIZE NUM..`: a STATEOFFER with the marks of these messages.
+    Offer {
+        member: MemberId,
+        place: Place,
+        size: u32,
+        marks: Sequence<u64>,
+    },
+    /// `part K INDEX TOTAL HEX`: a STATEPART with these bytes.
+    Part {
+        place: Place,
+        index: u32,
+        total: u32,
+        bytes: Bytes,
+    },
     /// `raw HEX`: these bytes.
     Raw {
         bytes: Bytes,
@@ -189,11 +224,13 @@ pub enum Kind {
 /// A line of the transcript.
 #[derive(Drop)]
 pub enum OutLine {
-    /// The header: the number of members, how many of them may be faulty, and the service.
+    /// The header: the number of members, how many of them may be faulty, the service, and the
+    /// period.
     Group {
         members: u64,
         faulty: u8,
         app: App,
+        period: u32,
     },
     /// A message was sent: its number, its sender, and what it is.
     Sent {
@@ -203,6 +240,11 @@ pub enum OutLine {
     },
     /// A node decided a place.
     Decided {
+        member: MemberId,
+        place: Place,
+    },
+    /// A node took over the replica of a place, which enough members certify.
+    Installed {
         member: MemberId,
         place: Place,
     },
@@ -264,7 +306,7 @@ pub enum OutLine {
     Crashed {
         member: MemberId,
     },
-    /// A member restarted: its last delivered place, and the number of restored entries.
+    /// A member restarted: its last delivered place, and how many entries its log restored.
     Restarted {
         member: MemberId,
         place: Place,

@@ -50,7 +50,7 @@ pub enum Premise {
     /// Nothing is forged. Each statement of an injected message whose tag verifies stands in a
     /// message that its signer has sent, unless that signer is faulty or rogue.
     Forged,
-    /// No two different batches that were met have one digest.
+    /// No two different batches or snapshots that were met have one digest.
     Collision,
     /// A crash leaves what the model of disks allows.
     NotAnImage(NotAnImage),

@@ -3,6 +3,6 @@ use Rattle.world_laws.proofs.cores.cores_play_alike.Goals as goal
 
 pub returns : goal.returns
 returns g c = record {
-  told = λ view ls. core_told g.S.Service.meaning view ls;
-  world = λ view ls. core_world g.S.Service.meaning view ls;
+  told = λ header ls. core_told g.S.Service.meaning header ls;
+  world = λ header ls. core_world g.S.Service.meaning header ls;
 }

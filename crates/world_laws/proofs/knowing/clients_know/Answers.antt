@@ -3,4 +3,4 @@ use Rattle.world_laws.proofs.Seen.{clients_know}
 use Rattle.world_laws.proofs.knowing.clients_know.Goals as goal
 
 pub returns : goal.returns
-returns g c = λ view ls client low. clients_know g.S.Service.meaning (course_of g.S.Service.meaning) view ls client low
+returns g c = λ header ls client low. clients_know g.S.Service.meaning (course_of g.S.Service.meaning) header ls client low

@@ -1,8 +1,10 @@
-use Rattle.replica_laws.proofs.FitNodes.{brief_where}
+use Rattle.replica_laws.proofs.Small.{brief_where}
+use Rattle.world_laws.proofs.Snapshots.{restorable_where}
 use Rattle.world_laws.proofs.ChosenKept.{witnessed-after}
 use Rattle.world_laws.proofs.stated.what_is_stated_is_shown.Goals as goal
 
 pub returns : goal.returns
 returns g c =
-    let brief = brief_where g.S.Service.meaning g.S.Service.valid g.met.S.Service.valid_first g.met.S.Service.valid_next g.met.S.Service.valid_restored g.met.S.Service.brief in
-    λ view ls is. witnessed-after g.S.Service.meaning brief view ls is
+    let brief = brief_where g.S.Service.meaning g.S.Service.valid g.met.S.Service.valid_first g.met.S.Service.valid_next g.met.S.Service.valid_restored g.met.S.Service.brief g.met.S.Service.small g.met.S.Service.restores g.met.S.Service.spelled in
+    let service = restorable_where g.S.Service.meaning g.S.Service.valid g.met.S.Service.valid_first g.met.S.Service.valid_next g.met.S.Service.brief g.met.S.Service.restores g.met.S.Service.small g.met.S.Service.valid_restored g.met.S.Service.spelled in
+    λ header ls is. witnessed-after g.S.Service.meaning brief service header ls is
