@@ -1,11 +1,13 @@
--- Which words are a command: the meaning that the parser gives to them.
-use Rattle.std.specs.Prelude.{◌≡◌, Bool, true, false, List, [], ◌∷◌, Option, Some, None, if◌then◌else◌, codes}
+-- Which words are a command: the meaning that the parser gives to them, and a value in range.
+use Rattle.std.specs.Prelude.{◌≡◌, ℕ, nat_le, Bool, true, false, ◌&&◌, List, [], ◌∷◌, Option, Some, None, if◌then◌else◌, codes}
 use Rattle.std.specs.Str.{bytes_eq}
 use Rattle.std.specs.List.{list_all, list_any}
-use Rattle.clap.specs.Words.{App, Kinds, Row, Shape, Text, fault_of, subcommand_of}
+use Rattle.clap.specs.Words.{App, Kinds, Row, Rule, Shape, Text, fault_of, new_rule, subcommand_of}
 use Rattle.clap.specs.Simple.{new_shape, with_subcommand}
+use Rattle.clap.specs.Walk.{first_of}
 use Rattle.clap.specs.declared.error.kind.ErrorKind.{ErrorKind}
 use Rattle.clap.specs.declared.error.kind.ErrorKind.TheVariants as kinds
+use Rattle.smart_base.specs.Decimals.{number_of}
 use Rattle.command_words.specs.declared.command.Command.{Command}
 use Rattle.command_words.specs.declared.command.Command.TheVariants as commands
 use Rattle.command_words.specs.declared.command.NoCommand.{NoCommand}
@@ -14,6 +16,14 @@ use Rattle.command_words.specs.declared.command.NoCommand.TheVariants as refusal
 -- the subcommand `world`: no arguments
 abbrev pub world_shape : Shape
 world_shape = new_shape (codes "world")
+
+-- the argument of `load`: one word, which has to be there
+abbrev pub count_rule : Rule
+count_rule = record (new_rule (codes "N")) { required = true }
+
+-- the subcommand `load`: its argument alone
+abbrev pub load_shape : Shape
+load_shape = record (new_shape (codes "load")) { rules = count_rule ∷ [] }
 
 -- the program before its subcommands: its name is no word, and one word has to be a subcommand
 abbrev pub bare_program : App
@@ -24,11 +34,24 @@ bare_program = record {
 
 -- the program with its subcommands
 abbrev pub program : App
-program = with_subcommand bare_program world_shape
+program = with_subcommand (with_subcommand bare_program world_shape) load_shape
+
+-- the load of a number of asks, if it is one of 1 to 100,000
+abbrev pub load_with : Option ℕ → Option Command
+load_with None = None
+load_with (Some count) = if nat_le 1 count && nat_le count 100000 then Some (commands.Load count) else None
+
+-- the load that a word names: a number in decimal, without leading zeros
+abbrev pub load_of : Option Text → Option Command
+load_of None = None
+load_of (Some word) = load_with (number_of word)
 
 -- the command that a subcommand is with what was found for its arguments
 abbrev pub command_named : Text → List Row → Option Command
-command_named name rows = if bytes_eq name (codes "world") then Some commands.World else None
+command_named name rows =
+    if bytes_eq name (codes "world") then Some commands.World
+    else if bytes_eq name (codes "load") then load_of (first_of (codes "N") rows)
+    else None
 
 -- the command of the subcommand that words name, if they name one
 abbrev pub command_in : Option (Text × List Row) → Option Command
@@ -40,7 +63,7 @@ abbrev pub command_if : Kinds → Option (Text × List Row) → Option Command
 command_if [] met = command_in met
 command_if (kind ∷ kinds) met = None
 
--- The command that words are: nothing is wrong with them, and they name its subcommand.
+-- The command that words are: nothing is wrong with them, they name its subcommand and, of `load`, a number from 1 to 100,000.
 unfoldable pub command_of : List Text → Option Command
 command_of words = command_if (fault_of program words) (subcommand_of program words)
 

@@ -1,10 +1,13 @@
 //! The commands of the program `smart`, and the reading of the words that name them.
-ghost use Rattle.std.specs.Prelude.{◌≡◌, IfOk, IfErr, Some, map, string_bytes};
-ghost use Rattle.clap.specs.Words.{FailsBy, app_of, fault_of, kind_of, subcommand_of, subcommand_rows_of, with_subcommand};
-ghost use Rattle.command_words.specs.Commands.{Answers, Refuses, bare_program, command_in, command_of, is_shown, program, world_shape};
+ghost use Rattle.std.specs.Prelude.{◌≡◌, IfOk, IfErr, Some, codes, false, map, string_bytes};
+ghost use Rattle.clap.specs.Words.{FailsBy, app_of, fault_of, found_of, kind_of, rows_of, rule_of, shape_of, subcommand_of, subcommand_rows_of, with_subcommand};
+ghost use Rattle.clap.specs.declared.builder.command.Command.TheViews.{out-Command};
+ghost use Rattle.clap.specs.Walk.{first_of};
+ghost use Rattle.command_words.specs.Commands.{Answers, Refuses, bare_program, command_in, command_of, count_rule, is_shown, load_of, load_shape, load_with, program, world_shape};
 
 use clap::error::ErrorKind;
-use clap::{ArgMatches, Command as Parser, Error};
+use clap::{Arg, ArgMatches, Command as Parser, Error};
+use smart_base::decimal::number_of;
 use std::alloc::{AllocError, Global};
 use std::fmt::Write;
 
@@ -13,6 +16,8 @@ use std::fmt::Write;
 pub enum Command {
     /// `world`: plays the script of the input.
     World,
+    /// `load N`: plays the script of a load of N asks, 1 to 100,000.
+    Load { count: u32 },
 }
 
 /// The reason for which words are no command.
@@ -26,6 +31,9 @@ pub enum NoCommand {
     NoMemory,
 }
 
+/// The most asks of a load.
+const LAST_LOAD: u64 = 100_000;
+
 /// The parser of the program's words before its subcommands.
 fn bare_parser<'a>(alloc: Global) -> Parser<'a>
     ensures { app_of result ≡ bare_program }
@@ -33,7 +41,7 @@ fn bare_parser<'a>(alloc: Global) -> Parser<'a>
     Parser::new(alloc, "smart")
         .about("Byzantine fault tolerant replication, step by step")
         .version("0.1")
-        .after_help("Examples:\n  smart world < examples/first.smart")
+        .after_help("Examples:\n  smart world < examples/first.smart\n  smart load 1000")
         .no_binary_name(true)
         .propagate_version(true)
         .arg_required_else_help(true)
@@ -57,12 +65,65 @@ fn with_world<'a>(alloc: Global, parser: Parser<'a>) -> Result<Parser<'a>, Alloc
     parser.subcommand(world)
 }
 
+/// The argument of `load`.
+fn count_argument<'a>(alloc: Global) -> Arg<'a>
+    ensures rule { rule_of result ≡ count_rule }
+    ensures local { result.global ≡ false }
+{
+    Arg::new(alloc, "N")
+        .help("The number of asks, 1 to 100000")
+        .required(true)
+}
+
+/// The subcommand `load`. Error: want of memory.
+fn load_parser<'a>(alloc: Global) -> Result<Parser<'a>, AllocError>
+    ensures shape { IfOk result (λ load. shape_of load ≡ load_shape) }
+    ensures local { IfOk result (λ load. (out-Command load).has_globals ≡ false) }
+{
+    let load = Parser::new(alloc, "load")
+        .about("Play the script of a load of N asks and write its totals")
+        .after_help("Example:\n  smart load 1000");
+    load.arg(count_argument(alloc))
+}
+
+/// Adds the subcommand `load`. Error: want of memory.
+fn with_load<'a>(alloc: Global, parser: Parser<'a>) -> Result<Parser<'a>, AllocError>
+    ensures { IfOk result (λ more. app_of more ≡ with_subcommand (app_of parser.entry) load_shape) }
+{
+    let load = load_parser(alloc)?;
+    parser.subcommand(load)
+}
+
 /// The parser of the program's words. Error: want of memory.
 fn program_parser<'a>(alloc: Global) -> Result<Parser<'a>, AllocError>
     ensures { IfOk result (λ parser. app_of parser ≡ program) }
 {
     let parser = named_parser(alloc)?;
-    with_world(alloc, parser)
+    let parser = with_world(alloc, parser)?;
+    with_load(alloc, parser)
+}
+
+/// The load of a number of asks, if it is in range.
+fn load_with(count: u64) -> Option<Command>
+    ensures { result ≡ load_with (Some count) }
+{
+    if 1 <= count && count <= LAST_LOAD {
+        Some(Command::Load {
+            count: count as u32,
+        })
+    } else {
+        None
+    }
+}
+
+/// The load that the argument of the subcommand `load` names, if it names one.
+#[tactic(auto, using(crate::proofs::Parsing::first_word))]
+fn load_met(matches: &ArgMatches<'_>) -> Option<Command>
+    ensures { result ≡ load_of (first_of (codes "N") (rows_of (found_of matches.now))) }
+{
+    let word = matches.get_str("N")?;
+    let count = number_of(word.as_bytes())?;
+    load_with(count)
 }
 
 /// The command that the parser has met.
@@ -71,6 +132,7 @@ fn command_met(matches: &ArgMatches<'_>) -> Option<Command>
 {
     match matches.subcommand() {
         Some(("world", _)) => Some(Command::World),
+        Some(("load", found)) => load_met(found),
         _ => None,
     }
 }
@@ -126,7 +188,7 @@ fn refusal(alloc: Global, error: &Error) -> NoCommand
 
 /// Reads the words behind the program's name.
 pub fn read_words(alloc: Global, words: &[String]) -> Result<Command, NoCommand>
-    // They are a command exactly by the parser's meaning, and everything else is none.
+    // They are a command exactly by the parser's meaning and, of `load`, with a number from 1 to 100,000. All else is none.
     ensures command { IfOk result (λ command. command_of (map string_bytes words.now) ≡ Some command) }
     ensures none { IfErr result (Refuses (map string_bytes words.now)) }
 {

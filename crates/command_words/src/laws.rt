@@ -1,13 +1,22 @@
 //! Laws of words. They speak of the definitions alone.
 ghost use Rattle.std.specs.Prelude.{◌≡◌, [], ◌∷◌, codes, Some, None, true};
 ghost use Rattle.command_words.specs.Commands.{IsShown, IsWrong, command_of, may_show};
-ghost use Rattle.command_words.specs.declared.command.Command.TheVariants.{World};
+ghost use Rattle.command_words.specs.declared.command.Command.TheVariants.{World, Load};
 
 /// The words that are the command `world`: this word, and also with the mark `--`, behind which it
 /// takes nothing.
 pub fn world_is_a_command()
     ensures alone { command_of (codes "world" ∷ []) ≡ Some World }
     ensures marked { command_of (codes "world" ∷ codes "--" ∷ []) ≡ Some World }
+{}
+
+/// Words that are a load: the word `load` and a number of asks from 1 to 100,000. The mark `--` may stand
+/// before the number or behind it.
+pub fn a_number_of_asks_is_a_load()
+    ensures least { command_of (codes "load" ∷ codes "1" ∷ []) ≡ Some (Load 1) }
+    ensures greatest { command_of (codes "load" ∷ codes "100000" ∷ []) ≡ Some (Load 100000) }
+    ensures marked { command_of (codes "load" ∷ codes "--" ∷ codes "65" ∷ []) ≡ Some (Load 65) }
+    ensures marked_behind { command_of (codes "load" ∷ codes "65" ∷ codes "--" ∷ []) ≡ Some (Load 65) }
 {}
 
 /// No words, and the forms of help and of the version, are no command. The parser answers with its text.
@@ -19,6 +28,8 @@ pub fn forms_of_help_are_no_command()
     ensures version { IsShown (codes "--version" ∷ []) }
     ensures world_help { IsShown (codes "world" ∷ codes "--help" ∷ []) }
     ensures world_version { IsShown (codes "world" ∷ codes "-V" ∷ []) }
+    ensures load_help { IsShown (codes "load" ∷ codes "--help" ∷ []) }
+    ensures load_version { IsShown (codes "load" ∷ codes "-V" ∷ []) }
     ensures topic { command_of (codes "help" ∷ codes "world" ∷ []) ≡ None }
     ensures shown_topic { may_show (codes "help" ∷ codes "world" ∷ []) ≡ true }
 {}
@@ -35,4 +46,18 @@ pub fn wrong_words_are_no_command()
     ensures flag { IsWrong (codes "world" ∷ codes "-x" ∷ []) }
     ensures long_flag { IsWrong (codes "--world" ∷ []) }
     ensures no_text { IsWrong ((255 ∷ []) ∷ []) }
+{}
+
+/// Words that name no number of asks are no load, and the parser's text is not shown.
+pub fn other_numbers_are_no_load()
+    ensures missing { IsWrong (codes "load" ∷ []) }
+    ensures none { IsWrong (codes "load" ∷ codes "0" ∷ []) }
+    ensures too_great { IsWrong (codes "load" ∷ codes "100001" ∷ []) }
+    ensures leading_zero { IsWrong (codes "load" ∷ codes "01" ∷ []) }
+    ensures plus { IsWrong (codes "load" ∷ codes "+1" ∷ []) }
+    ensures minus { IsWrong (codes "load" ∷ codes "-1" ∷ []) }
+    ensures no_number { IsWrong (codes "load" ∷ codes "x" ∷ []) }
+    ensures empty_number { IsWrong (codes "load" ∷ [] ∷ []) }
+    ensures more { IsWrong (codes "load" ∷ codes "1" ∷ codes "2" ∷ []) }
+    ensures option { IsWrong (codes "load" ∷ codes "--N=1" ∷ []) }
 {}

@@ -6,7 +6,7 @@ use Rattle.std.proofs.lemmas.List.{length-map}
 use Rattle.std.proofs.lemmas.List.Sums.{sum_by-cons, sum_by-append}
 use Rattle.smart_base.specs.Lists.{Each}
 use Rattle.load_maker.specs.Loads.{drawn, asker, amount, crasher, flow_lines, crash_lines, ask_lines, last_drawn, asks_left, load_lines, line_text, load_script}
-use Rattle.load_maker.specs.Totals.{is_ask, is_flow, is_crash, is_restart, IsInRange}
+use Rattle.load_maker.specs.Kinds.{is_ask, is_flow, is_crash, is_restart, IsInRange}
 use Rattle.load_maker.specs.declared.line.LoadLine.{LoadLine}
 use Rattle.load_maker.specs.declared.line.LoadLine.TheVariants as lines
 

@@ -1,3 +1,3 @@
+pub mod Kinds
 pub mod Loads
-pub mod Totals
 pub mod Turns

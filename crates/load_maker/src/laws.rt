@@ -3,7 +3,7 @@ ghost use Rattle.std.specs.Prelude.{◌≡◌, ◌+◌, ◌*◌, ◌/◌, ℕ, l
 ghost use Rattle.std.specs.List.{count_by};
 ghost use Rattle.smart_base.specs.Lists.{Each};
 ghost use Rattle.load_maker.specs.Loads.{load_lines, load_script};
-ghost use Rattle.load_maker.specs.Totals.{is_ask, is_flow, is_crash, is_restart, IsInRange};
+ghost use Rattle.load_maker.specs.Kinds.{is_ask, is_flow, is_crash, is_restart, IsInRange};
 
 /// How many lines of each kind a load of n asks has, and how many in all. Its lines name clients 1 to
 /// 8, amounts 1 to 100 and members 1 to 4 alone.

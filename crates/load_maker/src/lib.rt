@@ -1,4 +1,4 @@
-//! The script that `load N` plays, one line after the other. INTERIM(load): no command plays it yet.
+//! The script that `load N` plays, one line after the other.
 #![tactic(auto)]
 
 pub mod draw;

@@ -13,7 +13,7 @@ pub enum LoadLine {
     Group,
     /// `app count`: the service is a sum.
     App,
-    /// `period 16`: the number of places from one mark to the next.
+    /// `period 16`: the number of places in which each member takes one checkpoint.
     Period,
     /// `ask C A`: the client, 1 to 8, asks to add the amount, 1 to 100.
     Ask { client: ClientId, amount: u8 },

@@ -1,11 +1,13 @@
 //! A group of four members that replicates the lock.
 use app_lock::Lock;
 use client_quorum::client::Acceptance;
+use smart_base::limits::PERIOD;
 use smart_base::name::MemberId;
 use smart_base::view::View;
 use std::alloc::Global;
 use std::process::Abort;
 use world_core::world::World;
+use world_rules::line::Header;
 use world_script::reading::read_line;
 
 /// Members 1 to 4, of which one may be faulty.
@@ -46,7 +48,11 @@ fn both_are_told(accepted: &[Acceptance], name: &[u8]) -> bool {
 fn four_members_replicate_a_lock(rt: HostRuntime) {
     let alloc = rt.alloc();
     let view = group(alloc).expect(&rt, "a view");
-    let mut world = World::begin(alloc, view).expect(&rt, "there is memory");
+    let header = Header {
+        view,
+        period: PERIOD,
+    };
+    let mut world = World::begin(alloc, header).expect(&rt, "there is memory");
     let lines = ["ask 1 take ann", "flow", "ask 2 take bob", "flow"];
     assert!(rt; are_played(alloc, &mut world, &lines));
     assert!(rt; both_are_told(world.accepted(), b"ann"));

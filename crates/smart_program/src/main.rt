@@ -1,8 +1,9 @@
 //! The program `smart`: it makes the real input and outputs, and runs.
 #![tactic(auto)]
 
+use script_play::status::Status;
 use smart_io::standard::{StdSink, StdSource};
-use smart_top::status::{Status, report};
+use smart_top::report::report;
 use smart_top::top::run;
 use std::process::ExitCode;
 use std::{env, io};

@@ -4,15 +4,15 @@ use Rattle.std.proofs.lemmas.List.{append-nil}
 use Rattle.std.specs.Io.KnownBytes.{Appends, IsAtEnd}
 use Rattle.faults.specs.Counts.{Rose}
 use Rattle.world_rules.specs.Texts.{text_of}
-use Rattle.smart_top.specs.declared.status.Refusal.{Refusal}
+use Rattle.world_rules.specs.declared.line.App.{App}
+use Rattle.script_play.specs.declared.status.Refusal.{Refusal}
 use Rattle.smart_top.specs.declared.reader.Halt.{Halt}
 use Rattle.smart_top.specs.declared.reader.Halt.TheVariants as halts
-use Rattle.smart_top.specs.Apps.{core_courses, node_courses}
-use Rattle.smart_top.specs.declared.app.AppPlay.{AppPlay}
-use Rattle.smart_top.specs.Readings.{Reading, unread, whole_lines, rest_of, last_line, script_lines, reading_after, told_after, script_read, end_of, end_by, end_at, end_told, last_told, transcript}
+use Rattle.script_play.specs.Apps.{core_courses, node_courses}
+use Rattle.script_play.specs.Readings.{Reading, unread, whole_lines, rest_of, last_line, script_lines, reading_after, told_after, script_read, end_of, end_by, end_at, end_told, last_told, transcript}
 use Rattle.smart_top.specs.Feeds.{text_after, HasTaken, Halted, Within, halt_end}
 use Rattle.smart_top.specs.Runs.{IsLeft, Ends, WroteLines, WroteFront, RunEnd}
-use Rattle.smart_top.proofs.ReadingLaws.{text-append, front_behind, whole-feed, rest-feed}
+use Rattle.script_play.proofs.ReadingLaws.{text-append, front_behind, whole-feed, rest-feed}
 use Rattle.smart_top.proofs.ReadingCores.{trimmed_reading, core-after-unread, core-end, core-last}
 use Rattle.smart_top.proofs.Feeding.{appends-then}
 use Rattle.smart_top.proofs.Ending.{Starts, begins, played, same-text, told-lines, broken-front, refused-run, refused-ends}
@@ -27,29 +27,29 @@ all-read written now bytes input line script all taken =
 
 -- the transcript is what the lines told, and the end
 all-told : (written now : Option (List ℕ)) (bytes input line : List ℕ) (script : Reading) → script_lines input ≡ whole_lines [] bytes
-    → HasTaken core_courses bytes written now line script → text_after core_courses bytes ++ text_of (end_told script.count script.play) ≡ text_of (transcript node_courses input)
+    → HasTaken core_courses bytes written now line script → text_after core_courses bytes ++ text_of (end_told script script.play) ≡ text_of (transcript node_courses input)
 all-told written now bytes input line script all taken =
     let r : Reading = script_read node_courses input in
     let read : script ≡ trimmed_reading r = all-read written now bytes input line script all taken in
-    let last : end_told script.count script.play ≡ last_told r r.refused =
+    let last : end_told script script.play ≡ last_told r r.refused =
     ap (λ x. last_told script x) (sym taken.going) ∙ (ap (λ (q : Reading). last_told q q.refused) read ∙ core-last r) in
     ap (λ lines. text_after core_courses bytes ++ text_of lines) last
     ∙ (ap (λ text. text ++ text_of (last_told r r.refused)) (same-text bytes ∙ ap (λ ls. text_of (told_after node_courses unread ls)) (sym all))
     ∙ sym (text-append (told_after node_courses unread (script_lines input)) (last_told r r.refused)))
 
-ended-play : (left left' written now : Option (List ℕ)) (wants wants' count : ℕ) (play : Option AppPlay) → IsAtEnd left' → Ends left written now (end_at count play)
-    → RunEnd left left' written now wants wants' (end_at count play)
-ended-play left left' written now wants wants' count None end e = e
-ended-play left left' written now wants wants' count (Some p) end e = (e, end)
+ended-app : (left left' written now : Option (List ℕ)) (wants wants' count : ℕ) (app : Option App) → IsAtEnd left' → Ends left written now (end_at count app)
+    → RunEnd left left' written now wants wants' (end_at count app)
+ended-app left left' written now wants wants' count None end e = e
+ended-app left left' written now wants wants' count (Some app) end e = (e, end)
 
 ended-run : (left left' written now : Option (List ℕ)) (wants wants' : ℕ) (r : Reading) (x : Option Refusal) → x ≡ None → IsAtEnd left'
     → Ends left written now (end_by r x) → RunEnd left left' written now wants wants' (end_by r x)
-ended-run left left' written now wants wants' r None is end e = ended-play left left' written now wants wants' r.count r.play end e
+ended-run left left' written now wants wants' r None is end e = ended-app left left' written now wants wants' r.count r.app end e
 ended-run left left' written now wants wants' r (Some why) is end e = absurd (cc)
 
 -- a run that has written its whole transcript
 pub close-ended : (left left' written now now' : Option (List ℕ)) (wants wants' : ℕ) (bytes input line : List ℕ) (script : Reading)
-    → script_lines input ≡ whole_lines [] bytes → IsLeft left input → IsAtEnd left' → HasTaken core_courses bytes written now line script → Appends now now' (text_of (end_told script.count script.play))
+    → script_lines input ≡ whole_lines [] bytes → IsLeft left input → IsAtEnd left' → HasTaken core_courses bytes written now line script → Appends now now' (text_of (end_told script script.play))
     → RunEnd left left' written now' wants wants' (end_of script)
 close-ended left left' written now now' wants wants' bytes input line script all is_left end taken told =
     let r : Reading = script_read node_courses input in
@@ -60,7 +60,7 @@ close-ended left left' written now now' wants wants' bytes input line script all
       is_left = is_left;
       status_is = ap (λ (q : Reading). end_of q) read ∙ core-end r;
       text = subst (λ text. Appends written now' text) (all-told written now bytes input line script all taken)
-          (appends-then written now now' (text_after core_courses bytes) (text_of (end_told script.count script.play)) taken.text told);
+          (appends-then written now now' (text_after core_courses bytes) (text_of (end_told script script.play)) taken.text told);
       played = played (script_lines input);
     })
 
@@ -73,24 +73,24 @@ close-unwritten left written now now' bytes input line script all is_left same t
 
 -- a run of whose end only a front was written
 close-broken : (left written now now' : Option (List ℕ)) (bytes input line : List ℕ) (script : Reading) (count : ℕ)
-    → script_lines input ≡ whole_lines [] bytes → IsLeft left input → HasTaken core_courses bytes written now line script → Appends now now' (take count (text_of (end_told script.count script.play)))
+    → script_lines input ≡ whole_lines [] bytes → IsLeft left input → HasTaken core_courses bytes written now line script → Appends now now' (take count (text_of (end_told script script.play)))
     → WroteFront left written now'
 close-broken left written now now' bytes input line script count all is_left taken told =
-    let some = front_behind (text_after core_courses bytes) (text_of (end_told script.count script.play)) [] count in
-    let whole = ap (λ text. text_after core_courses bytes ++ text) (append-nil (text_of (end_told script.count script.play))) ∙ all-told written now bytes input line script all taken in
+    let some = front_behind (text_after core_courses bytes) (text_of (end_told script script.play)) [] count in
+    let whole = ap (λ text. text_after core_courses bytes ++ text) (append-nil (text_of (end_told script script.play))) ∙ all-told written now bytes input line script all taken in
     record {
       input = input;
       is_left = is_left;
       count = some.0;
       text = subst (λ text. Appends written now' text) (sym some.1 ∙ ap (λ text. take some.0 text) whole)
-          (appends-then written now now' (text_after core_courses bytes) (take count (text_of (end_told script.count script.play))) taken.text told);
+          (appends-then written now now' (text_after core_courses bytes) (take count (text_of (end_told script script.play))) taken.text told);
       played = played (script_lines input);
     }
 
 -- a run that stopped at its end
 pub close-halted : (left left' written now now' : Option (List ℕ)) (wants wants' : ℕ) (bytes input line : List ℕ) (script : Reading) (halt : Halt)
     → script_lines input ≡ whole_lines [] bytes → IsLeft left input → HasTaken core_courses bytes written now line script → (halt ≡ halts.Refused → ⊥) → (halt ≡ halts.NoMemory → now' ≡ now)
-    → (halt ≡ halts.SinkMemory → Rose wants wants') → (count : ℕ) × Appends now now' (take count (text_of (end_told script.count script.play)))
+    → (halt ≡ halts.SinkMemory → Rose wants wants') → (count : ℕ) × Appends now now' (take count (text_of (end_told script script.play)))
     → RunEnd left left' written now' wants wants' (halt_end script halt)
 close-halted left left' written now now' wants wants' bytes input line script halts.Refused all is_left taken never same rose told = absurd (never refl)
 close-halted left left' written now now' wants wants' bytes input line script halts.WriteFault all is_left taken never same rose told =
@@ -136,9 +136,9 @@ pub last-halted : (left left' written now : Option (List ℕ)) (wants wants' : �
     → RunEnd left left' written now wants wants' (halt_end script halt)
 last-halted left left' written now wants wants' bytes script halts.Refused some is_left rose w =
     refused-run left left' written now wants wants' script script.refused w.holds.is (refused-ends left written now (bytes ++ w.front) bytes script (last-starts bytes _ some w) is_left w.holds)
-last-halted left left' written now wants wants' bytes script halts.WriteFault some is_left rose w = broken-front left written now (bytes ++ w.front) bytes (begins _ _ (last-starts bytes _ some w)) is_left w.holds
+last-halted left left' written now wants wants' bytes script halts.WriteFault some is_left rose w = broken-front left written now (bytes ++ w.front) bytes (last-starts bytes _ some w) is_left w.holds
 last-halted left left' written now wants wants' bytes script halts.SinkMemory some is_left rose w =
-    inr (rose refl, broken-front left written now (bytes ++ w.front) bytes (begins _ _ (last-starts bytes _ some w)) is_left w.holds)
+    inr (rose refl, broken-front left written now (bytes ++ w.front) bytes (last-starts bytes _ some w) is_left w.holds)
 last-halted left left' written now wants wants' bytes script halts.NoMemory some is_left rose w = inl (told-lines left written now (bytes ++ w.front) bytes (begins _ _ (last-starts bytes _ some w)) is_left w.holds)
 
 -- a line that is not empty is one

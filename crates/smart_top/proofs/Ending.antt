@@ -5,27 +5,28 @@ use Rattle.std.specs.Io.KnownBytes.{Appends, Consumes, IsAtEnd, Keeps}
 use Rattle.faults.specs.Counts.{Rose}
 use Rattle.app_count.specs.Counts.{counting, IsSum}
 use Rattle.app_count.specs.Replies.{brief_replies as brief_sums}
-use Rattle.app_count.specs.Sums.{first_sum, next_sum, valid_sum}
+use Rattle.app_count.specs.Sums.{first_sum, next_sum, valid_sum, restored_sum, short_snapshot as short_sum, one_snapshot as one_sum}
 use Rattle.app_kv.specs.Snapshots.{keeping}
 use Rattle.app_kv.specs.Replies.{brief_replies as brief_values}
 use Rattle.app_kv.specs.Stores.{IsStore}
 use Rattle.app_kv.specs.States.{first_store, next_store}
-use Rattle.app_kv.specs.Restored.{valid_store}
-use Rattle.replica_laws.proofs.FitNodes.{IsBrief, brief_where}
+use Rattle.app_kv.specs.Restored.{valid_store, restored_store, short_snapshot as short_store, one_snapshot as one_store}
+use Rattle.replica_laws.proofs.Small.{IsBrief, brief_where}
 use Rattle.world_rules.specs.Texts.{text_of}
 use Rattle.world_rules.specs.declared.line.OutLine.{OutLine}
+use Rattle.world_laws.proofs.Snapshots.{IsRestorable, restorable_where}
 use Rattle.world_laws.proofs.OneListLaw.{one_list-throughout}
-use Rattle.smart_top.specs.declared.status.Refusal.{Refusal}
-use Rattle.smart_top.specs.declared.status.Refusal.TheVariants as refusals
+use Rattle.script_play.specs.declared.status.Refusal.{Refusal}
+use Rattle.script_play.specs.declared.status.Refusal.TheVariants as refusals
 use Rattle.smart_top.specs.declared.reader.Halt.{Halt}
 use Rattle.smart_top.specs.declared.reader.Halt.TheVariants as halts
-use Rattle.smart_top.specs.declared.status.Status.TheVariants as ends
-use Rattle.smart_top.specs.Apps.{core_courses, node_courses}
-use Rattle.smart_top.specs.Readings.{Reading, unread, whole_lines, rest_of, script_lines, reading_after, told_after, script_read, end_of, last_told, end_by, refused_end, transcript}
+use Rattle.script_play.specs.declared.status.Status.TheVariants as ends
+use Rattle.script_play.specs.Apps.{core_courses, node_courses}
+use Rattle.script_play.specs.Readings.{Reading, unread, whole_lines, rest_of, script_lines, reading_after, told_after, script_read, end_of, last_told, end_by, refused_end, transcript}
 use Rattle.smart_top.specs.Feeds.{text_after, script_after, Closes, HasRefused, HasBroken, HasTold, Within, Halted, GoesOn, halt_end}
 use Rattle.smart_top.specs.Runs.{IsLeft, ArePlayed, Ends, WroteAllRead, WroteLines, WroteFront, RunEnd}
-use Rattle.smart_top.proofs.ReadingLaws.{after-append, told-append, after-refused, told_after-refused, text-append, whole-feed, lines-front, front_of}
-use Rattle.smart_top.proofs.LongLines.{IsLong, long-read, long-untold, long-more, long-front, lines-behind}
+use Rattle.script_play.proofs.ReadingLaws.{after-append, told-append, after-refused, told_after-refused, text-append, whole-feed, lines-front, front_of}
+use Rattle.script_play.proofs.LongLines.{IsLong, long-read, long-tells, long-more, long-front, lines-behind}
 use Rattle.smart_top.proofs.ReadingCores.{core-told-unread, core-refused, core-count}
 use Rattle.smart_top.proofs.ReadingPlays.{one_list_holds}
 use Rattle.smart_top.proofs.ReadingTells.{tells-read}
@@ -45,18 +46,26 @@ pub begins : (bytes input : List ℕ) → Starts bytes input → Begins bytes in
 begins bytes input s = let front = lines-front bytes s.rest in record { more = front.0; split = s.same ∙ front.1 }
 
 -- the replies of both services are brief in each state that they come to
-sums_are_brief : IsBrief counting
-sums_are_brief = brief_where counting IsSum first_sum next_sum valid_sum brief_sums
+pub sums_are_brief : IsBrief counting
+sums_are_brief = brief_where counting IsSum first_sum next_sum valid_sum brief_sums short_sum restored_sum one_sum
 
 values_are_brief : IsBrief keeping
-values_are_brief = brief_where keeping IsStore first_store next_store valid_store brief_values
+values_are_brief = brief_where keeping IsStore first_store next_store valid_store brief_values short_store restored_store one_store
+
+-- the states of both services come back from their snapshots
+pub sums_are_restored : IsRestorable counting
+sums_are_restored = restorable_where counting IsSum first_sum next_sum brief_sums restored_sum short_sum valid_sum one_sum
+
+values_are_restored : IsRestorable keeping
+values_are_restored = restorable_where keeping IsStore first_store next_store brief_values restored_store short_store valid_store one_store
 
 -- lines that were read are played
 pub played : (ls : List (List ℕ)) → ArePlayed ls
 played ls =
     record {
       tell = tells-read ls;
-      one_list = one_list_holds (λ view is lines. one_list-throughout counting sums_are_brief view is lines) (λ view is lines. one_list-throughout keeping values_are_brief view is lines) ls;
+      one_list = one_list_holds (λ g is lines. one_list-throughout counting sums_are_brief sums_are_restored g is lines)
+          (λ g is lines. one_list-throughout keeping values_are_brief values_are_restored g is lines) ls;
     }
 
 -- the text that cores tell is the text that nodes tell
@@ -75,21 +84,6 @@ transcript-front bytes input b =
           ∙ (ap (λ lines. text_of lines ++ text_of last) (told-append node_courses unread (whole_lines [] bytes) b.more)
           ∙ (ap (λ text. text ++ text_of last) (text-append told behind) ∙ append_assoc (text_of told) (text_of behind) (text_of last)))),
     )
-
--- a run that broke off has written a front of the transcript
-pub broken-front : (left written now : Option (List ℕ)) (bytes input : List ℕ) → Begins bytes input → IsLeft left input
-    → HasBroken core_courses bytes written now → WroteFront left written now
-broken-front left written now bytes input b is_left broken =
-    let front = transcript-front bytes input b in
-    let some = front_of (text_after node_courses bytes) front.0 broken.count in
-    record {
-      input = input;
-      is_left = is_left;
-      count = some.0;
-      text = subst (λ text. Appends written now text)
-          (ap (λ text. take broken.count text) (same-text bytes) ∙ (sym some.1 ∙ ap (λ text. take some.0 text) (sym front.1))) broken.text;
-      played = played (script_lines input);
-    }
 
 -- a run that told whole lines has written the transcript of the input's first lines
 pub told-lines : (left written now : Option (List ℕ)) (bytes input : List ℕ) → Begins bytes input → IsLeft left input
@@ -110,7 +104,7 @@ end_by-refused : (r q : Reading) (x : Option Refusal) → is_some x ≡ true →
 end_by-refused r q None is count = absurd (cc)
 end_by-refused r q (Some why) is count = ap (λ k. refused_end (k + 1) why) count
 
-end-refused : (r q : Reading) → is_some r.refused ≡ true → r.refused ≡ q.refused → r.count ≡ q.count → end_of r ≡ end_of q
+pub end-refused : (r q : Reading) → is_some r.refused ≡ true → r.refused ≡ q.refused → r.count ≡ q.count → end_of r ≡ end_of q
 end-refused r q is refused count = end_by-refused r q r.refused is count ∙ ap (λ x. end_by q x) refused
 
 -- nothing is told behind a refused line
@@ -147,8 +141,7 @@ reads-long bytes input s long =
       read = ap (λ ls. reading_after node_courses unread ls) all
           ∙ (long-read node_courses whole on.1 line (line ++ on.0) long (long-more line on.0 long) (long-front line on.0 long) ∙ ap (λ ls. reading_after node_courses unread ls) (sym closed));
       told = ap (λ ls. told_after node_courses unread ls) all
-          ∙ (long-untold node_courses whole on.1 (line ++ on.0) (long-more line on.0 long)
-          ∙ (sym (long-untold node_courses whole [] line long) ∙ ap (λ ls. told_after node_courses unread ls) (sym closed)));
+          ∙ (long-tells node_courses whole on.1 line (line ++ on.0) long (long-more line on.0 long) ∙ ap (λ ls. told_after node_courses unread ls) (sym closed));
     }
 
 -- so an input reads as far as the line that is refused
@@ -156,6 +149,32 @@ reads-closed : (bytes closed input : List ℕ) → Starts bytes input → Closes
 reads-closed bytes closed input s (inl same) is =
     subst (λ c. ReadsAs c input) (sym same) (reads-ended bytes input (begins bytes input s) (ap (λ c. is_some (script_after node_courses c).refused) (sym same) ∙ is))
 reads-closed bytes closed input s (inr long) is = subst (λ c. ReadsAs c input) (sym long.0) (reads-long bytes input s long.1)
+
+-- so its transcript begins with what they tell
+closed-front : (bytes closed input : List ℕ) → Starts bytes input → Closes bytes closed → (rest : List ℕ) × (text_of (transcript node_courses input) ≡ text_after node_courses closed ++ rest)
+closed-front bytes closed input s (inl same) = transcript-front closed input (begins closed input (subst (λ c. Starts c input) (sym same) s))
+closed-front bytes closed input s (inr long) =
+    let reads : ReadsAs (bytes ++ 10 ∷ []) input = reads-long bytes input s long.1 in
+    let last : List OutLine = last_told (script_read node_courses input) (script_read node_courses input).refused in (
+      text_of last,
+      text-append (told_after node_courses unread (script_lines input)) last
+          ∙ (ap (λ lines. text_of lines ++ text_of last) reads.told ∙ ap (λ c. text_after node_courses c ++ text_of last) (sym long.0)),
+    )
+
+-- a run that broke off has written a front of the transcript
+pub broken-front : (left written now : Option (List ℕ)) (bytes input : List ℕ) → Starts bytes input → IsLeft left input
+    → HasBroken core_courses bytes written now → WroteFront left written now
+broken-front left written now bytes input s is_left broken =
+    let front = closed-front bytes broken.closed input s broken.closes in
+    let some = front_of (text_after node_courses broken.closed) front.0 broken.count in
+    record {
+      input = input;
+      is_left = is_left;
+      count = some.0;
+      text = subst (λ text. Appends written now text)
+          (ap (λ text. take broken.count text) (same-text broken.closed) ∙ (sym some.1 ∙ ap (λ text. take some.0 text) (sym front.1))) broken.text;
+      played = played (script_lines input);
+    }
 
 -- a run that a refused line has ended
 pub refused-ends : (left written now : Option (List ℕ)) (bytes input : List ℕ) (script : Reading) → Starts bytes input → IsLeft left input
@@ -233,9 +252,9 @@ halted-end left left' written now wants wants' bytes piece script halts.Refused 
     let i = within-starts left left' bytes piece _ consumed w in
     refused-run left left' written now wants wants' script script.refused w.holds.is (refused-ends left written now (bytes ++ w.front) i.0 script i.1 i.2 w.holds)
 halted-end left left' written now wants wants' bytes piece script halts.WriteFault consumed rose w =
-    let i = within-starts left left' bytes piece _ consumed w in broken-front left written now (bytes ++ w.front) i.0 (begins _ _ i.1) i.2 w.holds
+    let i = within-starts left left' bytes piece _ consumed w in broken-front left written now (bytes ++ w.front) i.0 i.1 i.2 w.holds
 halted-end left left' written now wants wants' bytes piece script halts.SinkMemory consumed rose w =
-    let i = within-starts left left' bytes piece _ consumed w in inr (rose refl, broken-front left written now (bytes ++ w.front) i.0 (begins _ _ i.1) i.2 w.holds)
+    let i = within-starts left left' bytes piece _ consumed w in inr (rose refl, broken-front left written now (bytes ++ w.front) i.0 i.1 i.2 w.holds)
 halted-end left left' written now wants wants' bytes piece script halts.NoMemory consumed rose w =
     let i = within-starts left left' bytes piece _ consumed w in inl (told-lines left written now (bytes ++ w.front) i.0 (begins _ _ i.1) i.2 w.holds)
 
@@ -264,7 +283,7 @@ left_of : (left : Option (List ℕ)) → (input : List ℕ) × IsLeft left input
 left_of None = ([], tt)
 left_of (Some xs) = (xs, refl)
 
-appends-nothing : (written : Option (List ℕ)) → Appends written written []
+pub appends-nothing : (written : Option (List ℕ)) → Appends written written []
 appends-nothing None = tt
 appends-nothing (Some xs) = sym (append-nil xs)
 

@@ -5,12 +5,12 @@ use Rattle.std.specs.Io.KnownBytes.{Appends, Keeps}
 use Rattle.world_rules.specs.Texts.{text_of}
 use Rattle.smart_top.specs.declared.reader.Halt.{Halt}
 use Rattle.smart_top.specs.declared.reader.Halt.TheVariants as halts
-use Rattle.smart_top.specs.Apps.{Courses}
-use Rattle.smart_top.specs.Readings.{Reading, unread, whole_lines, rest_of, line_taken, line_told, reading_after, told_after}
+use Rattle.script_play.specs.Apps.{Courses}
+use Rattle.script_play.specs.Readings.{Reading, unread, whole_lines, rest_of, line_taken, line_told, reading_after, told_after}
 use Rattle.smart_top.specs.Feeds.{text_after, script_after, HasTaken, HasRefused, HasBroken, HasTold, Within, Halted}
-use Rattle.smart_top.proofs.LongLines.{IsLong, long-told, long-refused}
-use Rattle.smart_top.proofs.ReadingCounts.{taken-counts}
-use Rattle.smart_top.proofs.ReadingLaws.{after-append, told-append, text-append, whole-feed, whole-more, rest-feed, rest-more, front_behind}
+use Rattle.script_play.proofs.LongLines.{IsLong, long-refused}
+use Rattle.script_play.proofs.ReadingCounts.{taken-counts}
+use Rattle.script_play.proofs.ReadingLaws.{after-append, told-append, text-append, whole-feed, whole-more, rest-feed, rest-more, front_behind}
 
 -- what was written
 
@@ -99,6 +99,8 @@ line-broken courses bytes written now now' line script count taken told =
       rest = [];
       split = refl;
       holds = record {
+        closed = bytes ++ 10 ∷ [];
+        closes = inl refl;
         count = more.0;
         text = subst (λ text. Appends written now' text) (sym more.1 ∙ ap (λ text. take more.0 text) whole)
             (appends-then written now now' (text_after courses bytes) (take count (text_of (line_told courses script line))) taken.text told);
@@ -149,34 +151,69 @@ byte-taken courses bytes written now line line' script b other more short taken 
       few = omega (arith, taken.few, length-append bytes (b ∷ []), ap (λ l. length l) more, length-append line (b ∷ []));
     }
 
--- a byte that makes a line too long, which was refused then
-pub byte-refused : (courses : Courses) (bytes : List ℕ) (written now : Option (List ℕ)) (line line' : List ℕ) (script script' : Reading) (b : ℕ)
+-- a byte that makes a line too long: what that line tells
+byte-told : (courses : Courses) (bytes : List ℕ) (written now : Option (List ℕ)) (line line' : List ℕ) (script : Reading) (b : ℕ)
+    → (b == 10) ≡ false → line' ≡ line ++ b ∷ [] → HasTaken courses bytes written now line script
+    → text_after courses bytes ++ text_of (line_told courses script line') ≡ text_after courses ((bytes ++ b ∷ []) ++ 10 ∷ [])
+byte-told courses bytes written now line line' script b other more taken =
+    ap (λ text. text ++ text_of (line_told courses script line')) (byte-text courses bytes b other)
+    ∙ told-line courses (bytes ++ b ∷ []) line' script (byte-line bytes line line' b other more taken.line_is) (taken.script_is ∙ byte-script courses bytes b other)
+
+-- it was refused then
+pub byte-refused : (courses : Courses) (bytes : List ℕ) (written now now' : Option (List ℕ)) (line line' : List ℕ) (script script' : Reading) (b : ℕ)
     → (b == 10) ≡ false → line' ≡ line ++ b ∷ [] → IsLong line' → HasTaken courses bytes written now line script
-    → script'.refused ≡ (line_taken courses script line').refused → script'.count ≡ (line_taken courses script line').count
-    → Within bytes (b ∷ []) (λ taken. HasRefused courses taken written now script')
-byte-refused courses bytes written now line line' script script' b other more long taken refused count =
+    → script'.refused ≡ (line_taken courses script line').refused → script'.count ≡ (line_taken courses script line').count → Appends now now' (text_of (line_told courses script line'))
+    → Within bytes (b ∷ []) (λ taken. HasRefused courses taken written now' script')
+byte-refused courses bytes written now now' line line' script script' b other more long taken refused count told =
     let begun : List ℕ = bytes ++ b ∷ [] in
-    let closed : List ℕ = begun ++ 10 ∷ [] in
     let line_is : line' ≡ rest_of [] begun = byte-line bytes line line' b other more taken.line_is in
     let script_is : script ≡ script_after courses begun = taken.script_is ∙ byte-script courses bytes b other in
-    let same : line_taken courses script line' ≡ script_after courses closed = taken-line courses begun line' script line_is script_is in
-    let told : text_after courses bytes ≡ text_after courses closed =
-    byte-text courses bytes b other
-    ∙ (sym (append-nil (text_after courses begun))
-    ∙ (ap (λ lines. text_after courses begun ++ text_of lines) (sym (long-told courses script line' long)) ∙ told-line courses begun line' script line_is script_is)) in
+    let same : line_taken courses script line' ≡ script_after courses (begun ++ 10 ∷ []) = taken-line courses begun line' script line_is script_is in
     record {
       front = b ∷ [];
       rest = [];
       split = refl;
       holds = record {
-        closed = closed;
+        closed = begun ++ 10 ∷ [];
         closes = inr (refl, subst (λ l. IsLong l) line_is long);
         refused = refused ∙ ap (λ (r : Reading). r.refused) same;
         count = count ∙ ap (λ (r : Reading). r.count) same;
         is = ap (λ x. is_some x) refused ∙ long-refused courses script line' long;
-        text = subst (λ text. Appends written now text) told taken.text;
+        text = subst (λ text. Appends written now' text) (byte-told courses bytes written now line line' script b other more taken)
+            (appends-then written now now' (text_after courses bytes) (text_of (line_told courses script line')) taken.text told);
       };
     }
+
+-- only a front of it was written
+byte-broken : (courses : Courses) (bytes : List ℕ) (written now now' : Option (List ℕ)) (line line' : List ℕ) (script : Reading) (b count : ℕ)
+    → (b == 10) ≡ false → line' ≡ line ++ b ∷ [] → IsLong line' → HasTaken courses bytes written now line script → Appends now now' (take count (text_of (line_told courses script line')))
+    → Within bytes (b ∷ []) (λ taken. HasBroken courses taken written now')
+byte-broken courses bytes written now now' line line' script b count other more long taken told =
+    let front = front_behind (text_after courses bytes) (text_of (line_told courses script line')) [] count in
+    let whole = ap (λ text. text_after courses bytes ++ text) (append-nil (text_of (line_told courses script line'))) ∙ byte-told courses bytes written now line line' script b other more taken in
+    record {
+      front = b ∷ [];
+      rest = [];
+      split = refl;
+      holds = record {
+        closed = (bytes ++ b ∷ []) ++ 10 ∷ [];
+        closes = inr (refl, subst (λ l. IsLong l) (byte-line bytes line line' b other more taken.line_is) long);
+        count = front.0;
+        text = subst (λ text. Appends written now' text) (sym front.1 ∙ ap (λ text. take front.0 text) whole)
+            (appends-then written now now' (text_after courses bytes) (take count (text_of (line_told courses script line'))) taken.text told);
+      };
+    }
+
+-- it was not written whole
+pub byte-halted : (courses : Courses) (bytes : List ℕ) (written now now' : Option (List ℕ)) (line line' : List ℕ) (script script' : Reading) (b : ℕ) (halt : Halt)
+    → (b == 10) ≡ false → line' ≡ line ++ b ∷ [] → IsLong line' → HasTaken courses bytes written now line script → (halt ≡ halts.Refused → ⊥) → (halt ≡ halts.NoMemory → now' ≡ now)
+    → (count : ℕ) × Appends now now' (take count (text_of (line_told courses script line'))) → Halted courses bytes (b ∷ []) written now' script' halt
+byte-halted courses bytes written now now' line line' script script' b halts.Refused other more long taken never same told = absurd (never refl)
+byte-halted courses bytes written now now' line line' script script' b halts.WriteFault other more long taken never same told =
+    byte-broken courses bytes written now now' line line' script b told.0 other more long taken told.1
+byte-halted courses bytes written now now' line line' script script' b halts.SinkMemory other more long taken never same told =
+    byte-broken courses bytes written now now' line line' script b told.0 other more long taken told.1
+byte-halted courses bytes written now now' line line' script script' b halts.NoMemory other more long taken never same told = line-unwritten courses bytes (b ∷ []) written now now' line script taken (same refl)
 
 -- a front of a piece behind a front of a longer piece is a front of that
 within-later : (bytes front piece rest whole : List ℕ) (P : List ℕ → Type 0) → whole ≡ front ++ (piece ++ rest) → Within (bytes ++ front) piece P → Within bytes whole P

@@ -1,9 +1,9 @@
-pub mod ReadingLaws
 pub mod ReadingCores
-pub mod LongLines
-pub mod ReadingCounts
 pub mod ReadingPlays
 pub mod ReadingTells
 pub mod Feeding
 pub mod Ending
 pub mod Closing
+pub mod LoadHeader
+pub mod LoadMeanings
+pub mod Loading

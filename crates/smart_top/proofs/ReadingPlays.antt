@@ -1,18 +1,21 @@
 -- What is read keeps one list.
-use Rattle.std.proofs.Common.{◌≡◌, ℕ, ◌+◌, Bool, true, false, List, [], ◌∷◌, ◌++◌, refl, ap, sym, ◌∙◌, arith, cond, Option, Some, None, is_some}
+use Rattle.std.proofs.Common.{◌≡◌, ◌<◌, ◌^◌, length, ℕ, ◌+◌, Bool, true, false, List, [], ◌∷◌, ◌++◌, refl, ap, sym, ◌∙◌, arith, cond, Option, Some, None, is_some}
 use Rattle.std.specs.Prelude.{not, nat_le, ◌&&◌, ◌*◌, Result, Ok, Err}
 use Rattle.std.proofs.lemmas.Bool.Decides.{nat_tests}
 use Rattle.smart_base.specs.Decimals.{number_of}
 use Rattle.smart_base.specs.Views.{View, is_view}
+use Rattle.snapshot_form.specs.Replicas.{is_first_view}
+use Rattle.smart_base.specs.declared.limits.TheConstants.{LAST_PERIOD, PERIOD}
 use Rattle.smart_service.specs.Services.{Meaning}
 use Rattle.app_count.specs.Counts.{counting}
 use Rattle.app_kv.specs.Snapshots.{keeping}
 use Rattle.world_rules.specs.Worlds.{World, course_of, begun}
 use Rattle.world_rules.specs.Plays.{Play, is_there, line_played, rested, world_after}
-use Rattle.world_laws.specs.Promises.{OneListThroughout}
-use Rattle.world_rules.specs.Scripts.{is_printed, is_short, is_nothing, words_in, line_of, members_from, view_for, group_words, group_by, group_line, app_line}
+use Rattle.world_laws.specs.Promises.{IsHeader, OneListThroughout}
+use Rattle.world_rules.specs.Scripts.{is_printed, is_short, is_nothing, words_in, line_of, members_from, view_for, group_words, group_by, group_line, app_line, is_period, period_words, period_line, in_range}
 use Rattle.world_rules.specs.declared.line.App.{App}
 use Rattle.world_rules.specs.declared.line.App.TheVariants as apps
+use Rattle.world_rules.specs.declared.line.Header.{Header}
 use Rattle.world_rules.specs.declared.line.Line.{Line}
 use Rattle.world_rules.specs.declared.line.OutLine.{OutLine}
 use Rattle.world_rules.specs.declared.line.Kind.{Kind}
@@ -20,21 +23,26 @@ use Rattle.world_rules.specs.declared.line.Kind.TheVariants as kinds
 use Rattle.world_rules.specs.declared.message.Ending.{Ending}
 use Rattle.world_script.proofs.Members.{first_view}
 use Rattle.world_laws.proofs.Grows.{world_after-append}
-use Rattle.smart_top.specs.Apps.{node_courses, play_begun, play_after, answer_until, play_answer, app_begun, app_after, app_answer}
-use Rattle.smart_top.specs.Readings.{Reading, unread, counted, refusing, group_taken, app_taken, header_taken, played_to, line_done, taken_at, is_full, line_taken, reading_after}
+use Rattle.script_play.specs.Apps.{node_courses, play_begun, play_after, answer_until, play_answer, app_begun, app_after, app_answer}
+use Rattle.script_play.specs.Readings.{Reading, unread, counted, refusing, with_period, closed, closed_by, closed_of, group_taken, app_taken, period_taken, header_taken, played_to, line_done, taken_at, is_full, line_taken, reading_after}
 use Rattle.smart_top.specs.Runs.{OneListOf, OneListHolds}
-use Rattle.smart_top.specs.declared.app.AppPlay.{AppPlay}
-use Rattle.smart_top.specs.declared.app.AppPlay.TheVariants as plays
-use Rattle.smart_top.specs.declared.status.Refusal.{Refusal}
-use Rattle.smart_top.specs.declared.status.Refusal.TheVariants as refusals
+use Rattle.script_play.specs.declared.app.AppPlay.{AppPlay}
+use Rattle.script_play.specs.declared.app.AppPlay.TheVariants as plays
+use Rattle.script_play.specs.declared.status.Refusal.{Refusal}
+use Rattle.script_play.specs.declared.status.Refusal.TheVariants as refusals
 use Rattle.agreement_laws.proofs.Lists.{either, either_by}
 
 -- the group of a header
 
--- a view, if there is one, keeps the rule of views
+-- a view that keeps the rule of views, and with which a group begins
+pub record BeginsGroup (view : View) : Type 0 where
+  pub viewed : is_view view ≡ true
+  pub begins : is_first_view view ≡ true
+
+-- a view, if there is one, is such a view
 abbrev pub ForView : Option View → Type 0
 ForView None = Unit {0}
-ForView (Some view) = is_view view ≡ true
+ForView (Some view) = BeginsGroup view
 
 -- so does the view for two numbers
 is_view-view_for : (n f : Option ℕ) → ForView (view_for n f)
@@ -42,7 +50,8 @@ is_view-view_for None f = tt
 is_view-view_for (Some n) None = tt
 is_view-view_for (Some n) (Some f) =
     either_by ForView (nat_le 1 n && nat_le n 31 && nat_le f 10 && nat_le (3 * f + 1) n) (Some (record { number = 0; start = 1; f = f; members = members_from 1 n })) None
-    (λ is. first_view n f (grind (arith, nat_tests, is)) (grind (arith, nat_tests, is)) (grind (arith, nat_tests, is)) (grind (arith, nat_tests, is))) (λ is. tt)
+    (λ is. record { viewed = first_view n f (grind (arith, nat_tests, is)) (grind (arith, nat_tests, is)) (grind (arith, nat_tests, is)) (grind (arith, nat_tests, is)); begins = refl })
+    (λ is. tt)
 
 -- so does the view of two words
 is_view-group_words : (words : List (List ℕ)) → ForView (group_words words)
@@ -61,18 +70,47 @@ pub is_view-group_line : (bytes : List ℕ) → ForView (group_line bytes)
 unfolding group_line
 is_view-group_line bytes = is_view-group_by (words_in bytes)
 
+-- the period of a header
+
+-- a period, if there is one, fits its field
+abbrev pub ForPeriod : Option (Option ℕ) → Type 0
+ForPeriod None = Unit {0}
+ForPeriod (Some None) = Unit {0}
+ForPeriod (Some (Some period)) = period < 2 ^ 32
+
+-- so does a number in the range of periods
+fits-between : (members n : ℕ) → (nat_le members n && nat_le n 1048576) ≡ true → n < 2 ^ 32
+fits-between members n is = grind (arith, nat_tests, is)
+
+fits-in_range : (members : ℕ) (n : Option ℕ) → ForPeriod (Some (in_range members LAST_PERIOD n))
+fits-in_range members None = tt
+fits-in_range members (Some n) =
+    either_by (λ o. ForPeriod (Some o)) (nat_le members n && nat_le n 1048576) (Some n) None (λ is. fits-between members n is) (λ is. tt)
+
+-- so does the period of words
+fits-period_words : (members : ℕ) (words : List (List ℕ)) → ForPeriod (Some (period_words members words))
+fits-period_words members [] = tt
+fits-period_words members (word ∷ []) = tt
+fits-period_words members (word ∷ number ∷ []) = fits-in_range members (number_of number)
+fits-period_words members (word ∷ number ∷ more ∷ words) = tt
+
+-- so does the period of a line
+fits-period_line : (members : ℕ) (bytes : List ℕ) → ForPeriod (period_line members bytes)
+unfolding period_line
+fits-period_line members bytes = either ForPeriod (is_period (words_in bytes)) (Some (period_words members (words_in bytes))) None (fits-period_words members (words_in bytes)) tt
+
 -- a play of one service
 
--- a play that was read stands for its lines, goes on, and its group keeps the rule of views
+-- a play that was read stands for its lines and goes on, and a play may begin of its header
 pub record IsSound {S : Type 0} (m : Meaning S) (p : Play S) : Type 0 where
   pub going : p.over ≡ false
   pub stands : p.world ≡ world_after (course_of m) (begun m p.group) p.lines
   pub open_world : p.world.ending ≡ None
-  pub viewed : is_view p.group ≡ true
+  pub headed : IsHeader p.group
 
 -- a play that begins
-begun-sound : {S : Type 0} (m : Meaning S) (view : View) → is_view view ≡ true → IsSound m (play_begun m view)
-begun-sound m view viewed = record { going = refl; stands = refl; open_world = refl; viewed = viewed }
+pub begun-sound : {S : Type 0} (m : Meaning S) (g : Header) → IsHeader g → IsSound m (play_begun m g)
+begun-sound m g headed = record { going = refl; stands = refl; open_world = refl; headed = headed }
 
 -- a world that tells has not ended, and tells what it has told
 answered : {S : Type 0} (t : Bool) (w : World S) (ending : Option Ending) (why : Refusal) (told : List OutLine) → cond t (answer_until w ending) (Err why) ≡ Ok told → (ending ≡ None) × (w.told ≡ told)
@@ -92,8 +130,8 @@ stands-more m p line sound =
     ap (λ w. rested (line_played (course_of m) w line)) sound.stands ∙ sym (world_after-append (course_of m) (begun m p.group) p.lines (line ∷ []))
 
 -- a play behind one more line
-after-sound : {S : Type 0} (m : Meaning S) (p : Play S) (line : Line) (told : List OutLine) → IsSound m p → play_answer (course_of m) p line ≡ Ok told → IsSound m (play_after (course_of m) p line)
-after-sound m p line told sound is = record { going = refl; stands = stands-more m p line sound; open_world = (answer-tells m p line told is).0; viewed = sound.viewed }
+pub after-sound : {S : Type 0} (m : Meaning S) (p : Play S) (line : Line) (told : List OutLine) → IsSound m p → play_answer (course_of m) p line ≡ Ok told → IsSound m (play_after (course_of m) p line)
+after-sound m p line told sound is = record { going = refl; stands = stands-more m p line sound; open_world = (answer-tells m p line told is).0; headed = sound.headed }
 
 -- the play of the service that the header names
 
@@ -101,9 +139,9 @@ abbrev pub SoundApp : AppPlay → Type 0
 SoundApp (plays.Count p) = IsSound counting p
 SoundApp (plays.Kv p) = IsSound keeping p
 
-begun-app : (app : App) (view : View) → is_view view ≡ true → SoundApp (app_begun app view)
-begun-app apps.Count view viewed = begun-sound counting view viewed
-begun-app apps.Kv view viewed = begun-sound keeping view viewed
+pub begun-app : (app : App) (g : Header) → IsHeader g → SoundApp (app_begun app g)
+begun-app apps.Count g headed = begun-sound counting g headed
+begun-app apps.Kv g headed = begun-sound keeping g headed
 
 after-app : (p : AppPlay) (line : Line) (told : List OutLine) → SoundApp p → app_answer node_courses p line ≡ Ok told → SoundApp (app_after node_courses p line)
 after-app (plays.Count p) line told sound is = after-sound counting p line told sound is
@@ -135,14 +173,28 @@ sound-group r None viewed sound = record { of_group = sound.of_group; of_play = 
 sound-group r (Some view) viewed sound = record { of_group = viewed; of_play = sound.of_play }
 
 -- the line that names a service
-sound-app : (r : Reading) (view : View) (app : Option App) → is_view view ≡ true → SoundReading r → SoundReading (app_taken r view app)
-sound-app r view None viewed sound = record { of_group = sound.of_group; of_play = sound.of_play }
-sound-app r view (Some app) viewed sound = record { of_group = sound.of_group; of_play = begun-app app view viewed }
+sound-app : (r : Reading) (app : Option App) → SoundReading r → SoundReading (app_taken r app)
+sound-app r None sound = record { of_group = sound.of_group; of_play = sound.of_play }
+sound-app r (Some app) sound = record { of_group = sound.of_group; of_play = sound.of_play }
 
--- a line of the header
-sound-header : (r : Reading) (l : List ℕ) (group : Option View) → ForView group → SoundReading r → SoundReading (header_taken r l group)
-sound-header r l None viewed sound = sound-group r (group_line l) (is_view-group_line l) sound
-sound-header r l (Some view) viewed sound = sound-app r view (app_line l) viewed sound
+-- a header that is whole
+sound-closed : (r : Reading) (view : View) (app : App) (period : ℕ) → BeginsGroup view → period < 2 ^ 32 → SoundReading r → SoundReading (closed r view app period)
+sound-closed r view app period viewed fits sound =
+    record { of_group = sound.of_group; of_play = begun-app app (with_period view period) (record { viewed = viewed.viewed; begins = viewed.begins; period_fits = fits }) }
+
+-- the usual period fits its field
+pub usual_fits : PERIOD < 2 ^ 32
+usual_fits = omega arith
+
+-- a header that ends before a line
+sound-closed_by : (r : Reading) (group : Option View) (app : Option App) → ForView group → SoundReading r → SoundReading (closed_by r group app)
+sound-closed_by r None app viewed sound = sound
+sound-closed_by r (Some view) None viewed sound = sound
+sound-closed_by r (Some view) (Some app) viewed sound = sound-closed r view app PERIOD viewed usual_fits sound
+
+sound-closed_of : (r : Reading) (play : Option AppPlay) → SoundReading r → SoundReading (closed_of r play)
+sound-closed_of r None sound = sound-closed_by r r.group r.app sound.of_group sound
+sound-closed_of r (Some p) sound = sound
 
 -- a line that leads to a play
 sound-played : (r : Reading) (p : AppPlay) (line : Line) → SoundApp p → SoundReading r → (answer : Result (List OutLine) Refusal) → app_answer node_courses p line ≡ answer
@@ -155,12 +207,28 @@ sound-done : (r : Reading) (p : AppPlay) (read : Result Line Kind) → SoundApp 
 sound-done r p (Err kind) of sound = sound-refused r (refusals.Script kind) sound
 sound-done r p (Ok line) of sound = sound-played r p line of sound (app_answer node_courses p line) refl
 
+-- the line after the one that names a service
+sound-period : (r : Reading) (view : View) (app : App) (l : List ℕ) (period : Option (Option ℕ)) → BeginsGroup view → ForPeriod period → SoundReading r
+    → SoundReading (period_taken node_courses r view app l period)
+sound-period r view app l (Some (Some period)) viewed fits sound = sound-counted (closed r view app period) (sound-closed r view app period viewed fits sound)
+sound-period r view app l (Some None) viewed fits sound = sound-refused (closed r view app PERIOD) (refusals.Script kinds.Header) (sound-closed r view app PERIOD viewed usual_fits sound)
+sound-period r view app l None viewed fits sound =
+    let whole : SoundReading (closed r view app PERIOD) = sound-closed r view app PERIOD viewed usual_fits sound in
+    sound-done (closed r view app PERIOD) (app_begun app (with_period view PERIOD)) (line_of l) whole.of_play whole
+
+-- a line of the header
+sound-header : (r : Reading) (l : List ℕ) (group : Option View) (app : Option App) → ForView group → SoundReading r → SoundReading (header_taken node_courses r l group app)
+sound-header r l None app viewed sound = sound-group r (group_line l) (is_view-group_line l) sound
+sound-header r l (Some view) None viewed sound = sound-app r (app_line l) sound
+sound-header r l (Some view) (Some app) viewed sound = sound-period r view app l (period_line (length view.members) l) viewed (fits-period_line (length view.members) l) sound
+
 -- a line by where the script stands
 sound-taken_at : (r : Reading) (l : List ℕ) (play : Option AppPlay) → SoundPlay play → SoundReading r → SoundReading (taken_at node_courses r l play)
 sound-taken_at r l None of sound =
-    either SoundReading (not (is_printed l)) _ _ (sound-refused r (refusals.Script kinds.Byte) sound)
-    (either SoundReading (not (is_short l)) _ _ (sound-refused r (refusals.Script kinds.Long) sound)
-    (either SoundReading (is_nothing l) _ _ (sound-counted r sound) (sound-header r l r.group sound.of_group sound)))
+    let ends : SoundReading (closed_by r r.group r.app) = sound-closed_by r r.group r.app sound.of_group sound in
+    either SoundReading (not (is_printed l)) _ _ (sound-refused (closed_by r r.group r.app) (refusals.Script kinds.Byte) ends)
+    (either SoundReading (not (is_short l)) _ _ (sound-refused (closed_by r r.group r.app) (refusals.Script kinds.Long) ends)
+    (either SoundReading (is_nothing l) _ _ (sound-counted r sound) (sound-header r l r.group r.app sound.of_group sound)))
 sound-taken_at r l (Some p) of sound = sound-done r p (line_of l) of sound
 
 -- one more line keeps a reading sound
@@ -168,7 +236,7 @@ pub sound-taken : (r : Reading) (l : List ℕ) → SoundReading r → SoundReadi
 unfolding line_taken
 sound-taken r l sound =
     either SoundReading (is_some r.refused) _ _ sound
-    (either SoundReading (is_full r) _ _ (sound-refused r refusals.Limit sound) (sound-taken_at r l r.play sound.of_play sound))
+    (either SoundReading (is_full r) _ _ (sound-refused (closed_of r r.play) refusals.Limit (sound-closed_of r r.play sound)) (sound-taken_at r l r.play sound.of_play sound))
 
 -- lines keep a reading sound
 pub sound-after : (r : Reading) (ls : List (List ℕ)) → SoundReading r → SoundReading (reading_after node_courses r ls)
@@ -181,11 +249,11 @@ sound-read ls = sound-after unread ls (record { of_group = tt; of_play = tt })
 
 -- the law of one list over a service
 abbrev pub Law : {S : Type 0} → Meaning S → Type 0
-Law m = (view : View) → is_view view ≡ true → (lines : List Line) → OneListThroughout m view lines
+Law m = (g : Header) → IsHeader g → (lines : List Line) → OneListThroughout m g lines
 
 -- by it one list holds of a play that is sound
 one_list-of : {S : Type 0} (m : Meaning S) → Law m → (p : Play S) → IsSound m p → OneListOf m p
-one_list-of m law p of = record { stands = of.stands; throughout = law p.group of.viewed p.lines }
+one_list-of m law p of = record { stands = of.stands; throughout = law p.group of.headed p.lines }
 
 one_list-play : Law counting → Law keeping → (play : Option AppPlay) → SoundPlay play → OneListHolds play
 one_list-play sums values None of = tt

@@ -3,12 +3,12 @@ use Rattle.std.specs.Prelude.{ℕ, ◌≡◌, ◌<◌, ◌≤◌, ◌+◌, ◌*�
 use Rattle.std.specs.Io.KnownBytes.{Appends, Consumes}
 use Rattle.smart_base.specs.declared.limits.TheConstants.{LINE_BYTES}
 use Rattle.world_rules.specs.Texts.{text_of}
-use Rattle.smart_top.specs.declared.status.Status.{Status}
-use Rattle.smart_top.specs.declared.status.Status.TheVariants as ends
+use Rattle.script_play.specs.declared.status.Status.{Status}
+use Rattle.script_play.specs.declared.status.Status.TheVariants as ends
 use Rattle.smart_top.specs.declared.reader.Halt.{Halt}
 use Rattle.smart_top.specs.declared.reader.Halt.TheVariants as halts
-use Rattle.smart_top.specs.Apps.{Courses}
-use Rattle.smart_top.specs.Readings.{Reading, unread, whole_lines, rest_of, reading_after, told_after, end_of}
+use Rattle.script_play.specs.Apps.{Courses}
+use Rattle.script_play.specs.Readings.{Reading, unread, whole_lines, rest_of, reading_after, told_after, end_of}
 
 -- the text that the whole lines of bytes tell
 abbrev pub text_after : Courses → List ℕ → List ℕ
@@ -42,10 +42,12 @@ pub record HasRefused (courses : Courses) (bytes : List ℕ) (written written' :
   pub is : is_some script.refused ≡ true
   pub text : Appends written written' (text_after courses closed)
 
--- a run that has written a prefix of what bytes tell
+-- A run that has written a prefix of what bytes tell. A line feed counts as added if the last line is already too long.
 pub record HasBroken (courses : Courses) (bytes : List ℕ) (written written' : Option (List ℕ)) : Type 0 where
+  pub closed : List ℕ
+  pub closes : Closes bytes closed
   pub count : ℕ
-  pub text : Appends written written' (take count (text_after courses bytes))
+  pub text : Appends written written' (take count (text_after courses closed))
 
 -- a run that has written what the whole lines of bytes tell
 pub record HasTold (courses : Courses) (bytes : List ℕ) (written written' : Option (List ℕ)) : Type 0 where

@@ -1,5 +1,3 @@
-pub mod Apps
-pub mod Readings
 pub mod Feeds
 pub mod Runs
-pub mod Statuses
+pub mod Loads

@@ -12,12 +12,12 @@ use Rattle.world_rules.specs.Texts.{header_line, text_of}
 use Rattle.world_rules.specs.declared.line.App.{App}
 use Rattle.world_rules.specs.declared.line.App.TheVariants as apps
 use Rattle.world_rules.specs.declared.line.OutLine.{OutLine}
-use Rattle.smart_top.specs.Apps.{node_courses}
-use Rattle.smart_top.specs.Readings.{unread, whole_lines, script_lines, reading_after, told_after, script_read, end_of, transcript}
-use Rattle.smart_top.specs.declared.app.AppPlay.{AppPlay}
-use Rattle.smart_top.specs.declared.app.AppPlay.TheVariants as plays
-use Rattle.smart_top.specs.declared.status.Status.{Status}
-use Rattle.smart_top.specs.declared.status.Status.TheVariants as ends
+use Rattle.script_play.specs.Apps.{node_courses}
+use Rattle.script_play.specs.Readings.{unread, whole_lines, script_lines, reading_after, told_after, script_read, end_of, transcript}
+use Rattle.script_play.specs.declared.app.AppPlay.{AppPlay}
+use Rattle.script_play.specs.declared.app.AppPlay.TheVariants as plays
+use Rattle.script_play.specs.declared.status.Status.{Status}
+use Rattle.script_play.specs.declared.status.Status.TheVariants as ends
 
 -- an input that is what its source had left, if the source tells it
 abbrev pub IsLeft : Option (List ℕ) → List ℕ → Type 0

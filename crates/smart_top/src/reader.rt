@@ -3,12 +3,12 @@
 ghost use Rattle.std.specs.Prelude.{◌≡◌, ◌≤◌, ◌++◌, [], ◌∷◌, List, ℕ, None, IfOk, IfErr, OnOk, OnErr, IsErrOf, Option, take};
 ghost use Rattle.std.specs.Io.KnownBytes.{Appends};
 ghost use Rattle.faults.specs.Counts.{Rose, HasCause, HasWant};
-ghost use Rattle.smart_top.specs.Apps.{core_courses};
+ghost use Rattle.script_play.specs.Apps.{core_courses};
 ghost use Rattle.world_rules.specs.Texts.{text_of};
 ghost use Rattle.smart_top.specs.Feeds.{HasTaken, Halted};
 
-use crate::script::Script;
 use faults::Fault;
+use script_play::script::Script;
 use smart_base::limits::LINE_BYTES;
 use smart_base::sequence::{Bytes, Sequence};
 use smart_io::stream::{Sink, write_all};
@@ -41,15 +41,24 @@ impl From<AllocError> for Halt {
 }
 
 /// A script, and the line that has begun.
-#[derive(Drop)]
 pub struct Reader {
     pub alloc: Global,
     pub script: Script,
     pub line: Bytes,
 }
 
+impl Drop for Reader {
+    fn drop(self) {
+        let Reader {
+            alloc: _,
+            script: _,
+            line: _,
+        } = self;
+    }
+}
+
 /// Writes all bytes, and flushes them.
-fn write_whole<O: Sink>(output: &mut O, bytes: &[u8]) -> Result<(), Fault>
+pub fn write_whole<O: Sink>(output: &mut O, bytes: &[u8]) -> Result<(), Fault>
     ensures ok { OnOk result (Appends (O.written output.old) (O.written output.new) bytes.now) }
     ensures err { OnErr result ((count : ℕ) × Appends (O.written output.old) (O.written output.new) (take count bytes.now)) }
     ensures cause { HasCause (O.faults output.old) (O.faults output.new) result }
@@ -119,7 +128,10 @@ pub fn take_byte<O: Sink>(reader: &mut Reader, output: &mut O, byte: u8) -> Resu
     }
     reader.line.push(byte)?;
     if reader.line.len() > LINE_BYTES {
-        let _ = reader.script.take_line(reader.line.as_slice())?;
+        let told = reader.script.take_line(reader.line.as_slice())?;
+        if let Err(halt) = write_lines(reader.alloc, output, told.as_slice()) {
+            return Err(halt);
+        }
         return Err(Halt::Refused);
     }
     Ok(())

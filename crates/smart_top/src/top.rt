@@ -2,46 +2,30 @@
 ghost use Rattle.std.specs.Prelude.{◌≡◌, ◌<◌, ◌≤◌, ◌++◌, ◌⊎◌, length, Some, List, ℕ, IsTrue, IsErrOf, IfErr, IfOk, Option, None, [], true, false, map, string_bytes};
 ghost use Rattle.std.specs.Io.KnownBytes.{IsAtEnd};
 ghost use Rattle.faults.specs.Counts.{Rose};
-ghost use Rattle.smart_top.specs.Apps.{core_courses};
-ghost use Rattle.smart_top.specs.Readings.{end_of, script_lines, whole_lines};
+ghost use Rattle.script_play.specs.Apps.{core_courses, node_courses};
+ghost use Rattle.script_play.specs.Readings.{script_lines, whole_lines};
 ghost use Rattle.smart_top.specs.Feeds.{HasTaken, GoesOn, GoesOnBehind, halt_end};
 ghost use Rattle.smart_top.specs.Runs.{IsLeft, RunEnd};
+ghost use Rattle.smart_top.specs.Loads.{load_read, LoadEnd};
 ghost use Rattle.command_words.specs.Commands.{command_of};
 
+use crate::load::load;
 use crate::reader::{Halt, Reader, end_line, feed, write_lines};
-use crate::script::Script;
-use crate::status::{Refusal, Status, report};
+use crate::report::report;
 use command_words::command::{Command, NoCommand, read_words};
 use faults::Fault;
+use script_play::script::{Script, script_end};
+use script_play::status::Status;
 use smart_base::sequence::Sequence;
 use smart_io::stream::{Sink, Source, write_all};
 use std::alloc::Global;
+use std::mem::forget;
 
 /// The number of bytes that are read at a time.
 const PIECE: usize = 4096;
 
 /// More reads than any input takes, as a script has fewer bytes.
 const READS: u64 = 1 << 37;
-
-/// The status of a script that ended, or of which a line was refused.
-fn script_end(script: &Script) -> Status
-    ensures { result ≡ end_of script.now }
-{
-    match script.refused() {
-        None => script.end(),
-        Some(Refusal::Script(kind)) => Status::Script {
-            line: script.count() + 1,
-            kind,
-        },
-        Some(Refusal::Premise(which)) => Status::Premise {
-            line: script.count() + 1,
-            which,
-        },
-        Some(Refusal::Limit) => Status::Limit {
-            line: script.count() + 1,
-        },
-    }
-}
 
 fn halt_end(script: &Script, halt: Halt) -> Status
     ensures { result ≡ halt_end script.now halt }
@@ -123,7 +107,8 @@ fn take_piece<I: Source, O: Sink>(
 }
 
 /// Plays the script of an input over the service that its header names. Writes the transcript of each
-/// line when the line is played. Neither the input nor the transcript is kept.
+/// line when the line is played. Neither the input nor the transcript is kept. The memory of the play is
+/// left to the end of the process, which a run's status is for.
 pub fn play_script<I: Source, O: Sink>(alloc: Global, input: &mut I, output: &mut O) -> Status
     ensures ended { RunEnd (I.left input.old) (I.left input.new) (O.written output.old) (O.written output.new) (O.wants output.old) (O.wants output.new) result }
     ensures read { result ≡ Status.ReadFault → Rose (I.faults input.old) (I.faults input.new) }
@@ -138,15 +123,22 @@ pub fn play_script<I: Source, O: Sink>(alloc: Global, input: &mut I, output: &mu
     for _ in 0..READS {
         match take_piece(&mut reader, input, output, &mut buffer) {
             Ok(true) => {}
-            Ok(false) => return finish(&mut reader, output),
-            Err(status) => return status,
+            Ok(false) => {
+                let status = finish(&mut reader, output);
+                forget(reader);
+                return status;
+            }
+            Err(status) => {
+                forget(reader);
+                return status;
+            }
         }
     }
     unreachable!()
 }
 
 /// Does what the words say, and writes to `errors` what the parser shows of words that are no command.
-#[tactic(auto, using(crate::proofs::Ending::unread_run))]
+#[tactic(auto, using(crate::proofs::Ending::unread_run, crate::proofs::Loading::unread_load, crate::proofs::Loading::is_complete))]
 fn obey<I: Source, O: Sink, E: Sink>(
     alloc: Global,
     words: &[String],
@@ -158,11 +150,14 @@ fn obey<I: Source, O: Sink, E: Sink>(
     ensures none { command_of (map string_bytes words.now) ≡ None → (result ≡ Status.Words) ⊎ (result ≡ Status.NoMemory) }
     ensures untouched { command_of (map string_bytes words.now) ≡ None → (input.new ≡ input.old) × (output.new ≡ output.old) }
     ensures ended { command_of (map string_bytes words.now) ≡ Some Command.World → RunEnd (I.left input.old) (I.left input.new) (O.written output.old) (O.written output.new) (O.wants output.old) (O.wants output.new) result }
+    ensures load { (n : ℕ) → command_of (map string_bytes words.now) ≡ Some (Command.Load n) → (input.new ≡ input.old) × LoadEnd n (O.written output.old) (O.written output.new) (O.wants output.old) (O.wants output.new) result }
+    ensures complete { (n : ℕ) → command_of (map string_bytes words.now) ≡ Some (Command.Load n) → (load_read node_courses n).refused ≡ None → (Rose (O.faults output.old) (O.faults output.new) → ⊥) → (result ≡ Status.Ok) ⊎ (result ≡ Status.NoMemory) }
     ensures read { result ≡ Status.ReadFault → Rose (I.faults input.old) (I.faults input.new) }
     ensures write { result ≡ Status.WriteFault → Rose (O.faults output.old) (O.faults output.new) }
 {
     match read_words(alloc, words) {
         Ok(Command::World) => play_script(alloc, input, output),
+        Ok(Command::Load { count }) => load(alloc, count, output),
         Err(NoCommand::Shown(text)) => {
             let _ = write_all(errors, text.as_bytes());
             Status::Words
@@ -173,21 +168,23 @@ fn obey<I: Source, O: Sink, E: Sink>(
 }
 
 /// Runs the program. `world` reads a script from the input and writes its transcript to the output.
+/// `load N` plays the script of a load of N asks and writes the totals of its play.
 /// For each status other than `Ok` a line is written to `errors`; a failure there changes nothing.
 /// Before it stands what the parser shows of words that ask for help or for the version, or of none.
 ///
 /// A script may deliver messages in any order, lose them and repeat them. It may let time pass at any
 /// member, change the regency, and declare up to f members faulty and any clients rogue. It may crash
-/// any members, or all at once, between any two device calls. A crash may leave any image that the
-/// model of disks allows. Whatever script is played:
+/// any members, or all at once, between any two device calls, also within a switch to a checkpoint. A
+/// crash may leave any image that the model of disks allows. Whatever script is played:
 ///
 /// - The members deliver fronts of one list of batches (state machine replication). The list only
 ///   grows.
 /// - Each reply that a client accepts is the service's answer at its request's one place in that
 ///   list. If the client is not rogue, that place is later than every place that it knew when it
 ///   asked.
-/// - Whatever crashes leave of the devices, each member restarts from a front of that list. No entry
-///   of its own is damaged, and none that was firm is lost.
+/// - Whatever crashes leave of the devices, each member restarts from a front of that list: from its
+///   newest checkpoint and the log after it. Neither is damaged. Of what was firm each entry is left,
+///   or a checkpoint or a greater promise that stands for it.
 /// - The place of each accepted reply is kept: whatever crashes leave of all devices at once, more
 ///   than f correct members restore it or a later one.
 ///
@@ -208,6 +205,10 @@ pub fn run<H, I: Source, O: Sink, E: Sink>(
     ensures untouched { command_of (map string_bytes words.now) ≡ None → (input.new ≡ input.old) × (output.new ≡ output.old) }
     // What `world` has read and written, by the status. One list holds of it, with crashes or without.
     ensures ended { command_of (map string_bytes words.now) ≡ Some Command.World → RunEnd (I.left input.old) (I.left input.new) (O.written output.old) (O.written output.new) (O.wants output.old) (O.wants output.new) result }
+    // What `load` has written, by the status: the totals of the play of its script. It reads nothing.
+    ensures load { (n : ℕ) → command_of (map string_bytes words.now) ≡ Some (Command.Load n) → (input.new ≡ input.old) × LoadEnd n (O.written output.old) (O.written output.new) (O.wants output.old) (O.wants output.new) result }
+    // `load` is complete: if no line of its script is refused and the output does not fail, it ends well, or for want of memory.
+    ensures complete { (n : ℕ) → command_of (map string_bytes words.now) ≡ Some (Command.Load n) → (load_read node_courses n).refused ≡ None → (Rose (O.faults output.old) (O.faults output.new) → ⊥) → (result ≡ Status.Ok) ⊎ (result ≡ Status.NoMemory) }
     // A fault of input or output: its count rose.
     ensures read { result ≡ Status.ReadFault → Rose (I.faults input.old) (I.faults input.new) }
     ensures write { result ≡ Status.WriteFault → Rose (O.faults output.old) (O.faults output.new) }

@@ -1,6 +1,6 @@
 //! Runs over inputs and outputs in memory that fail, and over long inputs.
+use script_play::status::Status;
 use smart_io::memory::{MemSink, MemSource};
-use smart_top::status::Status;
 use smart_top::top::run;
 use std::alloc::Global;
 use std::process::Abort;
@@ -22,6 +22,9 @@ end 4 5\n";
 
 const HEADER_TOLD: &[u8] = b"group 1 0 count 1024\n";
 
+/// What the line after the header tells: before it, that the header is whole.
+const ASKED_TOLD: &[u8] = b"group 1 0 count 1024\nsent 1 c1 ask 1 1 0\n";
+
 fn copied<T: Copy>(rt: &impl Abort, alloc: Global, items: &[T]) -> Vec<T> {
     Vec::from_slice(alloc, items).expect(rt, "there is memory")
 }
@@ -30,8 +33,8 @@ fn sink(alloc: Global, failing: Vec<u64>) -> MemSink {
     MemSink::new(Vec::new(alloc), failing)
 }
 
-/// Runs a command over a script, where these calls of the input and of the output fail: how it ends,
-/// what it writes and what it says.
+/// Runs a command's words over a script, where these calls of the input and of the output fail: how it
+/// ends, what it writes and what it says.
 fn played(
     rt: &impl Abort,
     alloc: Global,
@@ -41,8 +44,10 @@ fn played(
     writes: &[u64],
 ) -> (Status, Vec<u8>, Vec<u8>) {
     let mut words = Vec::new(alloc);
-    let word = String::from_str(alloc, command).expect(rt, "there is memory");
-    words.push(word).expect(rt, "there is memory");
+    for word in command.split(' ') {
+        let word = String::from_str(alloc, word).expect(rt, "there is memory");
+        words.push(word).expect(rt, "there is memory");
+    }
     let mut input = MemSource::new(script, copied(rt, alloc, reads));
     let mut output = sink(alloc, copied(rt, alloc, writes));
     let mut errors = sink(alloc, Vec::new(alloc));
@@ -84,12 +89,36 @@ fn a_fault_has_its_cause(rt: HostRuntime) {
             0,
             3,
             Status::WriteFault,
-            HEADER_TOLD,
+            ASKED_TOLD,
             "smart: write fault\n",
         ),
     ] {
         let script = copied(&rt, rt.alloc(), LONE);
         let ended = played(&rt, rt.alloc(), command, script, &[reads], &[writes]);
+        assert_eq!(rt; ended.0, status);
+        assert_eq!(rt; ended.1.as_slice(), told);
+        assert_eq!(rt; ended.2.as_slice(), said.as_bytes());
+    }
+}
+
+const ONE_ASK: &[u8] = b"load 1\nasks 1\naccepted 1\nplaces 1\nsum 91\nmessages 14\n";
+
+/// The first read would fail. The first call of the output is the write of all lines, and the second
+/// flushes them.
+#[test]
+fn a_load_reads_nothing_and_ends_by_its_output(rt: HostRuntime) {
+    for (writes, status, told, said) in [
+        (0, Status::Ok, ONE_ASK, ""),
+        (
+            1,
+            Status::WriteFault,
+            b"".as_slice(),
+            "smart: write fault\n",
+        ),
+        (2, Status::WriteFault, ONE_ASK, "smart: write fault\n"),
+    ] {
+        let script = copied(&rt, rt.alloc(), LONE);
+        let ended = played(&rt, rt.alloc(), "load 1", script, &[1], &[writes]);
         assert_eq!(rt; ended.0, status);
         assert_eq!(rt; ended.1.as_slice(), told);
         assert_eq!(rt; ended.2.as_slice(), said.as_bytes());
@@ -128,6 +157,12 @@ fn wrong_words_are_said_to_be_bad(rt: HostRuntime) {
         "smart -- world",
         "smart world -x",
         "smart help other",
+        "smart load",
+        "smart load 0",
+        "smart load 100001",
+        "smart load 01",
+        "smart load x",
+        "smart load 1 2",
     ] {
         let ended = ran(&rt, rt.alloc(), row);
         assert_eq!(rt; ended.0, Status::Words);
@@ -147,6 +182,7 @@ fn help_is_said_before_that_the_words_are_bad(rt: HostRuntime) {
         "smart help",
         "smart help world",
         "smart world --help",
+        "smart load --help",
     ] {
         let ended = ran(&rt, rt.alloc(), row);
         assert_eq!(rt; ended.0, Status::Words);

@@ -1,6 +1,7 @@
 //! What is said of an end that no script reaches.
+use script_play::status::Status;
 use smart_io::memory::MemSink;
-use smart_top::status::{Status, report};
+use smart_top::report::report;
 use world_rules::message::Premise;
 
 #[test]

@@ -21,6 +21,7 @@ fn main(rt: HostRuntime) -> io::Result<()> {
         let words = words_of(rt.alloc(), row.as_str())?;
         match read_words(rt.alloc(), words.as_slice()) {
             Ok(Command::World) => println!(rt; "the command world")?,
+            Ok(Command::Load { count }) => println!(rt; "the command load {count}")?,
             Err(NoCommand::Shown(text)) => println!(rt; "shown:\n{text}")?,
             Err(NoCommand::Wrong) => println!(rt; "wrong")?,
             Err(NoCommand::NoMemory) => println!(rt; "no memory")?,

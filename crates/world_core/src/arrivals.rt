@@ -3,7 +3,6 @@ ghost use Rattle.std.specs.Prelude.{◌≡◌, OnOk};
 ghost use Rattle.smart_statements.specs.declared.entry.NodeEvent.TheVariants.{Arrive};
 ghost use Rattle.world_rules.specs.Worlds.{core_course, arrives, arrives_at, give_number};
 
-use smart_base::duplicate::Duplicate;
 use smart_base::party::Party;
 use smart_service::service::Service;
 use smart_statements::entry::NodeEvent;
@@ -57,6 +56,9 @@ pub fn give_number<S: Service>(
         return Ok(());
     }
     let bytes = content_bytes(world.alloc, &world.sent.as_slice()[index].content)?;
-    let arrival = NodeEvent::Arrive(bytes.duplicate(world.alloc)?);
-    arrive_at(world, bytes.as_slice(), &arrival, to)
+    let arrival = NodeEvent::Arrive(bytes);
+    match &arrival {
+        NodeEvent::Arrive(bytes) => arrive_at(world, bytes.as_slice(), &arrival, to),
+        NodeEvent::Tick | NodeEvent::Deliver | NodeEvent::Firm(_) => unreachable!(),
+    }
 }

@@ -5,7 +5,6 @@ ghost use Rattle.world_rules.specs.Repeats.{until_rest};
 ghost use Rattle.world_rules.specs.Premises.{bytes_of};
 ghost use Rattle.world_rules.specs.Worlds.{core_course, reaches, goes, flow_once, flows};
 
-use smart_base::duplicate::Duplicate;
 use smart_base::name::MemberId;
 use smart_base::party::Party;
 use smart_base::sequence::{Bytes, Sequence};
@@ -73,8 +72,11 @@ fn go<S: Service>(
 ) -> Result<(), AllocError>
     ensures { OnOk result (world.new ≡ goes (core_course S.meaning) members.now world.old bytes to.now) }
 {
-    let arrival = NodeEvent::Arrive(bytes.duplicate(world.alloc)?);
-    reach_all(world, members, bytes.as_slice(), &arrival, to)
+    let arrival = NodeEvent::Arrive(bytes);
+    match &arrival {
+        NodeEvent::Arrive(bytes) => reach_all(world, members, bytes.as_slice(), &arrival, to),
+        NodeEvent::Tick | NodeEvent::Deliver | NodeEvent::Firm(_) => unreachable!(),
+    }
 }
 
 /// Brings the next message past the mark, if there is one, to its addressees: members that are

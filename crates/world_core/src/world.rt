@@ -9,17 +9,15 @@ ghost use Rattle.world_rules.specs.declared.message.Premise.{Premise};
 use crate::lines;
 use client_quorum::client::Acceptance;
 use node_rules::node::Delivery;
-use smart_base::duplicate::Duplicate;
 use smart_base::name::MemberId;
 use smart_base::sequence::Sequence;
-use smart_base::view::View;
 use smart_service::service::Service;
 use smart_statements::batch::Batch;
 use std::alloc::{AllocError, Global};
 use std::marker::Model;
 use vote_book::entry::LogEntry;
 use world_hosts::host::Host;
-use world_rules::line::{Line, OutLine};
+use world_rules::line::{Header, Line, OutLine};
 use world_rules::message::{Ending, Premise, Sent};
 use world_state::state::WorldState;
 
@@ -50,7 +48,7 @@ impl From<AllocError> for WorldEnd {
 
 /// The play of a script over a service: the world, and the lines that it stands for.
 pub struct World<S: Service> {
-    group: View,
+    group: Header,
     lines: Sequence<Line>,
     state: WorldState<S>,
     over: bool,
@@ -96,12 +94,12 @@ fn play_line<S: Service>(state: &mut WorldState<S>, line: &Line) -> Result<(), W
 
 impl<S: Service> World<S> {
     /// The play at the end of a header. Error: want of memory.
-    pub fn begin(alloc: Global, view: View) -> Result<Self, AllocError>
-        ensures { IfOk result (λ w. w ≡ record { group = view; lines = []; world = begun S.meaning view; over = false }) }
+    pub fn begin(alloc: Global, header: Header) -> Result<Self, AllocError>
+        ensures { IfOk result (λ w. w ≡ record { group = header; lines = []; world = begun S.meaning header; over = false }) }
     {
-        let state = WorldState::begin(alloc, view.duplicate(alloc)?)?;
+        let state = WorldState::begin(alloc, &header)?;
         Ok(World {
-            group: view,
+            group: header,
             lines: Sequence::new(alloc),
             state,
             over: false,
@@ -145,6 +143,13 @@ impl<S: Service> World<S> {
         self.over
     }
 
+    /// What the header states of the group.
+    pub fn header(&self) -> &Header
+        ensures { result.now ≡ self.now.group }
+    {
+        &self.group
+    }
+
     /// The chosen list: the batch of each place that was decided.
     pub fn chosen(&self) -> &[Batch]
         ensures { result.now ≡ self.now.world.chosen }
@@ -182,7 +187,8 @@ impl<S: Service> World<S> {
         }
     }
 
-    /// The batches that steps of a member's present life delivered, if it is a member.
+    /// The batches that a member's steps delivered since it last restarted or took over a replica, if
+    /// it is a member.
     pub fn delivered(&self, id: MemberId) -> Option<&[Delivery]>
         ensures { option_copied result ≡ option_map (λ h. h.delivered) (host_of self.now.world.hosts id) }
     {
@@ -192,7 +198,8 @@ impl<S: Service> World<S> {
         }
     }
 
-    /// The batches that steps of a member's earlier lives delivered, if it is a member.
+    /// The batches that a member's steps delivered before it last restarted or took over a replica, if
+    /// it is a member.
     pub fn earlier(&self, id: MemberId) -> Option<&[Delivery]>
         ensures { option_copied result ≡ option_map (λ h. h.earlier) (host_of self.now.world.hosts id) }
     {

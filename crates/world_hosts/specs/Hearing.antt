@@ -1,7 +1,8 @@
--- What a node hears of its store, and whether a step of it was idle.
+-- What a node hears of its store, whether a step of it was idle, and the segment of its deliveries.
 use Rattle.std.specs.Prelude.{◌-◌, nat_lt, Bool, true, false, List, [], ◌∷◌, Option, Some, None, if◌then◌else◌}
 use Rattle.smart_statements.specs.declared.entry.NodeEvent.{NodeEvent}
 use Rattle.smart_statements.specs.declared.entry.NodeEvent.TheVariants.{Firm}
+use Rattle.node_rules.specs.Deliveries.{Segment}
 use Rattle.node_rules.specs.declared.node.Fired.{Fired}
 use Rattle.world_rules.specs.Worlds.{Host}
 
@@ -13,3 +14,7 @@ firmness h = if nat_lt h.node.firm h.store.firm then Some (Firm (h.store.firm - 
 abbrev pub is_idle : List Fired → Bool
 is_idle [] = true
 is_idle (rule ∷ rules) = false
+
+-- a host whose present segment of deliveries is this one
+abbrev pub with_segment : {S : Type 0} → Host S → Segment → Host S
+with_segment h s = record h { resumed = s.began; delivered = s.delivered; earlier = s.earlier }

@@ -1,28 +1,28 @@
 //! A member's host, and what it tells of its node's steps.
-ghost use Rattle.std.specs.Prelude.{◌≡◌, ◌+◌, ◌++◌, ◌==◌, ◌&&◌, [], true, IfOk, OnOk, length, map, drop, is_some};
+ghost use Rattle.std.specs.Prelude.{◌≡◌, ◌+◌, ◌++◌, ◌==◌, ◌&&◌, [], true, not, IfOk, OnOk, length, map, drop, is_some, nat_lt, Some, None, if◌then◌else◌};
 ghost use Rattle.std.specs.List.{flat_map};
 ghost use Rattle.std.specs.Option.{option_copied};
-ghost use Rattle.smart_base.specs.declared.limits.TheConstants.{PERIOD};
 ghost use Rattle.node_rules.specs.Nodes.{next_place, view_of};
 ghost use Rattle.node_rules.specs.Kept.{core_step};
+ghost use Rattle.node_rules.specs.Transfers.{completed_by};
+ghost use Rattle.node_rules.specs.Marks.{wanted};
 ghost use Rattle.node_rules.specs.Steps.{leaving, released, opened, outset};
-ghost use Rattle.store_laws.specs.States.{is_due};
-ghost use Rattle.store_laws.specs.Unswitched.{never};
-ghost use Rattle.node_rules.specs.Deliveries.{delivery_in};
-ghost use Rattle.world_rules.specs.Secrets.{period};
-ghost use Rattle.world_rules.specs.Worlds.{core_course, host_of_node, disk_called, told_drop, told_fired, chosen_with, host_after, host_index, shown_host};
+ghost use Rattle.store_laws.specs.States.{is_due, given};
+ghost use Rattle.store_laws.specs.Stops.{is_installed};
+ghost use Rattle.store_plan.specs.Fit.{AreEntries};
+ghost use Rattle.node_rules.specs.Deliveries.{delivery_in, installed_in, segment_with, segment_after};
+ghost use Rattle.world_rules.specs.Worlds.{core_course, host_of_node, spelled_behind, disk_called, snapshot_in, told_drop, told_fired, chosen_with, asking_for, place_of_own, segment_of, tail_due, host_after, host_index, shown_host};
 ghost use Rattle.world_rules.specs.Premises.{is_among};
-ghost use Rattle.world_hosts.specs.Hearing.{firmness, is_idle};
+ghost use Rattle.world_hosts.specs.Hearing.{firmness, is_idle, with_segment};
 ghost use Rattle.world_hosts.specs.Standing.{stands};
 
 use member_store::store::MemberStore;
 use node_core::node::NodeCore;
-use node_rules::node::{Delivery, Fired, Held, Why};
+use node_rules::node::{BookTail, Delivery, Fired, Held, Why};
 use smart_base::duplicate::Duplicate;
-use smart_base::limits::PERIOD;
 use smart_base::name::MemberId;
 use smart_base::number::Place;
-use smart_base::sequence::Sequence;
+use smart_base::sequence::{Bytes, Sequence};
 use smart_base::view::View;
 use smart_keys::ring::Ring;
 use smart_service::service::Service;
@@ -31,15 +31,18 @@ use smart_statements::entry::NodeEvent;
 use std::alloc::{AllocError, Global};
 use std::marker::Model;
 use std::mem::drop;
+use store_laws::job::Tail;
 use vote_book::entry::LogEntry;
 use world_rules::line::OutLine;
 
 /// A member's host: its node, and the store of what the node writes, which runs if the node does. It
-/// has the place at which this life began, and the batches that steps delivered, in this life and in
-/// earlier ones.
+/// has the place of the checkpoint to which the store switches, or last did in this life. It has the
+/// place at which this life began or last took over a replica, the batches that steps delivered since,
+/// and those that earlier steps delivered.
 pub struct Host<S> {
     pub(crate) node: NodeCore<S>,
     pub(crate) store: MemberStore,
+    pub(crate) switching: Place,
     pub(crate) resumed: Place,
     pub(crate) delivered: Vec<Delivery>,
     pub(crate) earlier: Vec<Delivery>,
@@ -55,6 +58,7 @@ impl<S> Model for Host<S> {
       node = h.node.node;
       up = h.store.runs;
       store = h.store.state;
+      switching = h.switching;
       life = record { diary = []; aside = [] };
       resumed = h.resumed;
       delivered = h.delivered.items;
@@ -67,6 +71,7 @@ impl<S: Drop> Drop for Host<S> {
         let Host {
             node,
             store,
+            switching: _switching,
             resumed: _resumed,
             delivered,
             earlier,
@@ -99,6 +104,10 @@ fn tell_rule(told: &mut Vec<OutLine>, id: MemberId, rule: &Fired) -> Result<(), 
     ensures { OnOk result (told.new.items ≡ told.old.items ++ told_fired id rule.now) }
 {
     match rule {
+        Fired::Installed(place) => told.push(OutLine::Installed {
+            member: id,
+            place: *place,
+        })?,
         Fired::Delivered(delivery) => {
             let line = OutLine::Delivered {
                 member: id,
@@ -126,7 +135,9 @@ fn tell_rule(told: &mut Vec<OutLine>, id: MemberId, rule: &Fired) -> Result<(), 
             member: id,
             place: *place,
         })?,
-        Fired::Joined
+        Fired::Spoiled
+        | Fired::Marked(_)
+        | Fired::Joined
         | Fired::Led
         | Fired::Proposed
         | Fired::Wrote
@@ -146,14 +157,61 @@ fn tell_fired(told: &mut Vec<OutLine>, id: MemberId, fired: &[Fired]) -> Result<
     Ok(())
 }
 
-/// Keeps the batches that rules have delivered.
-fn keep_deliveries(delivered: &mut Vec<Delivery>, fired: Sequence<Fired>) -> Result<(), AllocError>
-    ensures { OnOk result (delivered.new.items ≡ delivered.old.items ++ flat_map delivery_in fired) }
+/// Ends a segment of deliveries at a place.
+pub(crate) fn end_segment<S: Service>(host: &mut Host<S>, place: Place) -> Result<(), AllocError>
+    ensures { OnOk result (host.new ≡ with_segment host.old (segment_with (Some place) [] (segment_of host.old))) }
+{
+    host.earlier.append(&mut host.delivered)?;
+    host.resumed = place;
+    Ok(())
+}
+
+/// Keeps the batch that a rule has delivered, or the snapshot that it has marked. A replica that was
+/// taken over ends a segment.
+fn keep_rule<S: Service>(
+    host: &mut Host<S>,
+    marked: &mut Vec<Bytes>,
+    rule: Fired,
+) -> Result<(), AllocError>
+    ensures host { OnOk result (host.new ≡ with_segment host.old (segment_with (installed_in rule) (delivery_in rule) (segment_of host.old))) }
+    ensures marked { OnOk result (marked.new.items ≡ marked.old.items ++ snapshot_in rule) }
+{
+    match rule {
+        Fired::Installed(place) => {
+            end_segment(host, place)?;
+        }
+        Fired::Delivered(delivery) => {
+            host.delivered.push(delivery)?;
+        }
+        Fired::Marked(snapshot) => {
+            marked.push(snapshot)?;
+        }
+        Fired::Adopted(start) => drop(start),
+        Fired::Promised(promise) => drop(promise),
+        Fired::Spoiled
+        | Fired::Decided(_)
+        | Fired::Joined
+        | Fired::Led
+        | Fired::Proposed
+        | Fired::Wrote
+        | Fired::Accepted
+        | Fired::Timed
+        | Fired::Answered => {}
+    }
+    Ok(())
+}
+
+/// Keeps the batches that rules have delivered, and the snapshots that they have marked.
+fn keep_fired<S: Service>(
+    host: &mut Host<S>,
+    marked: &mut Vec<Bytes>,
+    fired: Sequence<Fired>,
+) -> Result<(), AllocError>
+    ensures host { OnOk result (host.new ≡ with_segment host.old (segment_after (segment_of host.old) fired)) }
+    ensures marked { OnOk result (marked.new.items ≡ marked.old.items ++ flat_map snapshot_in fired) }
 {
     for rule in fired.into_vec() {
-        if let Fired::Delivered(delivery) = rule {
-            delivered.push(delivery)?;
-        }
+        keep_rule(host, marked, rule)?;
     }
     Ok(())
 }
@@ -186,11 +244,18 @@ fn is_idle(fired: &[Fired]) -> bool
 }
 
 impl<S: Service> Host<S> {
-    /// The host of a new node, over devices that hold nothing. Error: want of memory.
-    pub fn begin(alloc: Global, id: MemberId, view: View, ring: Ring) -> Result<Self, AllocError>
+    /// The host of a new node, over devices that hold nothing. `view` is the group's first view. `period`
+    /// is the number of places in which each member takes one checkpoint. Error: want of memory.
+    pub fn begin(
+        alloc: Global,
+        id: MemberId,
+        view: View,
+        period: u32,
+        ring: Ring,
+    ) -> Result<Self, AllocError>
         ensures { IfOk result (λ h. h ≡ host_of_node (opened (outset S.meaning ring id view period))) }
     {
-        let node: NodeCore<S> = NodeCore::begin(alloc, id, view, PERIOD, ring)?;
+        let node: NodeCore<S> = NodeCore::begin(alloc, id, view, period, ring)?;
         let mut store = match MemberStore::empty(alloc) {
             Ok(store) => store,
             Err(error) => {
@@ -206,6 +271,7 @@ impl<S: Service> Host<S> {
         Ok(Host {
             node,
             store,
+            switching: Place::new(0),
             resumed: Place::new(0),
             delivered: Vec::new(alloc),
             earlier: Vec::new(alloc),
@@ -240,14 +306,14 @@ impl<S: Service> Host<S> {
         self.store.runs()
     }
 
-    /// The batches that steps of this life delivered.
+    /// The batches that steps delivered since this life began or took over a replica.
     pub fn delivered(&self) -> &[Delivery]
         ensures { result.now ≡ self.now.delivered }
     {
         self.delivered.as_slice()
     }
 
-    /// The batches that steps of earlier lives delivered.
+    /// The batches that steps delivered before.
     pub fn earlier(&self) -> &[Delivery]
         ensures { result.now ≡ self.now.earlier }
     {
@@ -256,7 +322,7 @@ impl<S: Service> Host<S> {
 
     /// Whether its node runs, and its store has a device call to make.
     pub fn has_call(&self) -> bool
-        ensures { result ≡ (self.now.up && is_due never self.now.store) }
+        ensures { result ≡ (self.now.up && is_due is_installed self.now.store) }
     {
         self.store.is_due()
     }
@@ -281,6 +347,18 @@ impl<S: Service> Host<S> {
         None
     }
 
+    /// The texts that an event completes at its node: one, or none. Error: want of memory.
+    pub fn completed(&mut self, alloc: Global, event: &NodeEvent) -> Result<Vec<Bytes>, AllocError>
+        ensures texts { IfOk result (λ texts. texts.items ≡ completed_by self.old.node event.now) }
+        ensures same { self.new ≡ self.old }
+    {
+        let mut texts = Vec::new(alloc);
+        if let Some(text) = self.node.completed(event)? {
+            texts.push(text)?;
+        }
+        Ok(texts)
+    }
+
     /// The line of the node's place, view and regency, or the line that its member has crashed.
     pub fn shown(&self) -> OutLine
         ensures { result ≡ stands self.now }
@@ -299,6 +377,30 @@ impl<S: Service> Host<S> {
     }
 }
 
+/// The tail that the store of a running host writes at its next device call, if that call writes one.
+/// Error: want of memory.
+fn tail_due<S: Service>(host: &Host<S>) -> Result<Tail, AllocError>
+    requires { host.now.up ≡ true }
+    ensures is { IfOk result (λ tail. tail ≡ tail_due host.now) }
+    ensures fit { IfOk result (λ tail. AreEntries tail.entries) }
+{
+    if !host.store.wants_tail() {
+        return Ok(host.store.no_tail());
+    }
+    let BookTail { made, entries } = host.node.tail(host.switching)?;
+    Ok(Tail { made, entries })
+}
+
+/// Notes to which checkpoint the store of a running host switches, if a switch waited and has begun.
+fn note_switch<S: Service>(host: &mut Host<S>, waited: bool)
+    requires { host.old.up ≡ true }
+    ensures { host.new ≡ record host.old { switching = if waited && not (is_some host.old.store.asked) then place_of_own (wanted host.old.node) else host.old.switching } }
+{
+    if waited && !host.store.asks() {
+        host.switching = host.node.place_wanted();
+    }
+}
+
 /// Makes the next device call of a running host's store, if there is one, and gives what its node has
 /// to hear then. Error: want of memory.
 #[tactic(auto, unfolding(world_rules::specs::Worlds::disk_called))]
@@ -307,7 +409,10 @@ pub fn call_disk<S: Service>(host: &mut Host<S>) -> Result<Option<NodeEvent>, Al
     ensures host { OnOk result (host.new ≡ disk_called (core_course S.meaning) host.old) }
     ensures event { IfOk result (λ event. event ≡ firmness (disk_called (core_course S.meaning) host.old)) }
 {
-    host.store.call()?;
+    let waited = host.store.asks();
+    let tail = tail_due(host)?;
+    host.store.call(&tail)?;
+    note_switch(host, waited);
     Ok(host.firmness())
 }
 
@@ -323,11 +428,18 @@ pub(crate) fn behind(entries: &[LogEntry], count: u64) -> &[LogEntry]
     rest
 }
 
+/// Whether a host is a member's.
+fn is_host_of<S: Service>(host: &Host<S>, member: MemberId) -> bool
+    ensures { result ≡ (host.now.node.id == member) }
+{
+    host.id() == member
+}
+
 /// The index of a member's host, if the member has one.
 pub fn host_index<S: Service>(hosts: &[Host<S>], member: MemberId) -> Option<usize>
     ensures { result ≡ host_index hosts.now member }
 {
-    hosts.iter().position(|host| host.id() == member)
+    hosts.iter().position(|host| is_host_of(host, member))
 }
 
 /// Whether a list has a member.
@@ -375,20 +487,57 @@ pub struct Left {
     pub idle: bool,
 }
 
-/// Takes an event at a running host's node, and gives the messages that leave. What the step tells
-/// and the batch that it has chosen are added. Error: want of memory. A node that want of memory
-/// broke takes no event, and answers want of memory again.
+/// Asks the store of a running host to switch to the snapshot that its node wants, if there is one.
+/// Error: want of memory.
+fn ask_wanted<S: Service>(host: &mut Host<S>) -> Result<(), AllocError>
+    requires { host.old.up ≡ true }
+    ensures { OnOk result (host.new ≡ record host.old { store = asking_for (wanted host.old.node) host.old.store }) }
+{
+    if let Some(own) = host.node.wanted()? {
+        host.store.ask(own.snapshot)?;
+    }
+    Ok(())
+}
+
+/// Asks the same, if the node took a snapshot since it had taken so many. Error: want of memory.
+fn ask_switch<S: Service>(host: &mut Host<S>, taken: u64) -> Result<(), AllocError>
+    requires { host.old.up ≡ true }
+    ensures { OnOk result (host.new ≡ record host.old { store = asking_for (if nat_lt taken (length host.old.node.taken) then wanted host.old.node else None) host.old.store }) }
+{
+    if taken < host.node.taken() {
+        ask_wanted(host)?;
+    }
+    Ok(())
+}
+
+/// Gives to the store of a running host what its node has written after so many entries. If the node
+/// took a checkpoint since it had taken so many, the store is asked to switch to it. Error: want of
+/// memory.
+fn keep_step<S: Service>(host: &mut Host<S>, made: u64, taken: u64) -> Result<(), AllocError>
+    requires { host.old.up ≡ true }
+    ensures { OnOk result (host.new ≡ record host.old { store = asking_for (if nat_lt taken (length host.old.node.taken) then wanted host.old.node else None) (given (spelled_behind made host.old.node.entries) host.old.store) }) }
+{
+    host.store.write_down(behind(host.node.book(), made))?;
+    ask_switch(host, taken)?;
+    Ok(())
+}
+
+/// Takes an event at a running host's node, and gives the messages that leave. What the step tells,
+/// the batch that it has chosen and the snapshots that it has marked are added. Error: want of memory.
+/// A node that want of memory broke takes no event, and answers want of memory again.
 pub fn step_host<S: Service>(
     alloc: Global,
     host: &mut Host<S>,
     chosen: &mut Vec<Batch>,
     told: &mut Vec<OutLine>,
+    marked: &mut Vec<Bytes>,
     event: &NodeEvent,
 ) -> Result<Left, AllocError>
     requires { host.old.up ≡ true }
     ensures host { OnOk result (host.new ≡ host_after (core_course S.meaning) host.old (core_step S.meaning host.old.node event.now)) }
     ensures chosen { OnOk result (let after = (core_step S.meaning host.old.node event.now).node in chosen.new.items ≡ chosen_with chosen.old.items (next_place after) after.waiting) }
     ensures told { OnOk result (let o = core_step S.meaning host.old.node event.now in told.new.items ≡ told.old.items ++ (told_drop host.old.node.id o.dropped ++ flat_map (told_fired host.old.node.id) o.fired)) }
+    ensures marked { OnOk result (marked.new.items ≡ marked.old.items ++ flat_map snapshot_in (core_step S.meaning host.old.node event.now).fired) }
     ensures left { IfOk result (λ left. let after = (core_step S.meaning host.old.node event.now).node in left.messages ≡ leaving after.firm after.held) }
     ensures idle { IfOk result (λ left. left.idle ≡ is_idle (core_step S.meaning host.old.node event.now).fired) }
 {
@@ -397,8 +546,9 @@ pub fn step_host<S: Service>(
     }
     let id = host.node.id();
     let made = host.node.made();
+    let taken = host.node.taken();
     let outcome = host.node.step(event)?;
-    host.store.write_down(behind(host.node.book(), made))?;
+    keep_step(host, made, taken)?;
     tell_step(told, id, outcome.dropped, outcome.fired.as_slice())?;
     choose(
         alloc,
@@ -407,7 +557,7 @@ pub fn step_host<S: Service>(
         host.node.waiting(),
     )?;
     let idle = is_idle(outcome.fired.as_slice());
-    keep_deliveries(&mut host.delivered, outcome.fired)?;
+    keep_fired(host, marked, outcome.fired)?;
     let messages = host.node.release_all()?;
     Ok(Left { messages, idle })
 }

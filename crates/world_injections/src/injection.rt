@@ -1,43 +1,44 @@
 //! What a script injects.
-ghost use Rattle.std.specs.Prelude.{◌≡◌, ◌<◌, ◌≤◌, ◌^◌, true, Some, None, if◌then◌else◌, nat_lt, length, is_some, IfOk, IfSome, option_copied, option_map};
+ghost use Rattle.std.specs.Prelude.{◌≡◌, ◌<◌, ◌≤◌, ◌^◌, true, Some, None, if◌then◌else◌, nat_lt, length, is_some, IfOk, IfSome, filter, nat_le, option_copied, option_map};
 ghost use Rattle.std.specs.List.{flat_map};
 ghost use Rattle.std.specs.Option.{option_and_then};
-ghost use Rattle.smart_base.specs.declared.limits.TheConstants.{BATCH_REQUESTS};
+ghost use Rattle.smart_base.specs.declared.limits.TheConstants.{BATCH_REQUESTS, MARKS, PIECE_BYTES};
 ghost use Rattle.smart_statements.specs.Kinds.{requests, proposals, ballots};
 ghost use Rattle.smart_statements.specs.Reports.{reports, marks};
 ghost use Rattle.smart_messages.specs.Messages.{spelling};
 ghost use Rattle.smart_statements.specs.Spelling.{signed as signed_text};
 ghost use Rattle.replica_rules.specs.Seals.{signed, digest_of};
 ghost use Rattle.world_rules.specs.Secrets.{group_secret};
-ghost use Rattle.world_rules.specs.Injections.{content_at, request_of, request_at, requests_at, batch_proposed, report_of, reports_at, short_bytes, locked_at, report_bytes, sync_bytes, proposal_bytes, vote_bytes, injected_bytes, are_bytes, injected};
+ghost use Rattle.world_rules.specs.Injections.{content_at, request_of, request_at, requests_at, batch_proposed, report_of, reports_at, mark_of, marks_at, decision_of, view_of_first, evident_by, evident_at, short_bytes, locked_at, report_bytes, report_by, sync_bytes, offer_bytes, proposal_bytes, vote_bytes, injected_bytes, are_bytes, injected};
 ghost use Rattle.smart_messages.specs.declared.message.Message.TheVariants as changes;
 ghost use Rattle.smart_messages.specs.Regencies.{stops};
 ghost use Rattle.world_injections.specs.Proposals.{is_proposable, proposable};
-ghost use Rattle.world_injections.specs.Sizes.{fits_report, fits_numbers};
-ghost use Rattle.world_injections.specs.Named.{locked_of};
+ghost use Rattle.world_injections.specs.Sizes.{is_early, evident_len, locked_len, fits_report, fits_numbers, fits_marks};
+ghost use Rattle.world_injections.specs.Named.{locked_of, evident_of};
 
 use crate::size::{batch_len, lock_len};
 use smart_base::bytes::{Digest32, Payload};
 use smart_base::duplicate::Duplicate;
 use smart_base::keys::Digester;
-use smart_base::limits::{BATCH_BYTES, BATCH_REQUESTS, MESSAGE_BYTES};
+use smart_base::limits::{BATCH_BYTES, BATCH_REQUESTS, MARKS, MESSAGE_BYTES, PIECE_BYTES};
 use smart_base::name::{ClientId, MemberId};
 use smart_base::number::{Place, Regency, ViewNo};
 use smart_base::sequence::{Bytes, Sequence};
 use smart_keys::hash::Sha;
 use smart_keys::ring::Ring;
 use smart_messages::codec::encode;
-use smart_messages::message::{Message, Proposed, report_in, request_in};
+use smart_messages::message::{Message, Proposed, decision_in, mark_in, report_in, request_in};
 use smart_messages::party::party_of;
 use smart_messages::regency::{Reported, Stop, Sync};
 use smart_statements::batch::Batch;
 use smart_statements::optional::duplicate_optional;
-use smart_statements::report::{Evidence, LockCertificate, Mark, Report};
+use smart_statements::report::{DecisionProof, Evidence, LockCertificate, Mark, Report};
 use smart_statements::signed::{Signed, Statement};
 use smart_statements::signed_list::SignedList;
 use smart_statements::statement::{Ballot, Proposal, Request, Slot, VoteKind};
 use std::alloc::{AllocError, Global};
 use std::mem::drop;
+use transfer_form::transfer::{Piece, ProvenBatch, StateAsk, StateOffer, StatePart};
 use world_ledger::content::{batch_proposed, read_content};
 use world_rules::line::Injection;
 use world_rules::message::{Content, Sent};
@@ -52,11 +53,24 @@ struct Locked {
     batch: Option<Batch>,
 }
 
+/// What a report shows of a decision.
+#[derive(Drop)]
+struct Evident {
+    last: Place,
+    evidence: Evidence,
+}
+
 /// The bytes of a batch before its requests.
 const HEAD_BYTES: usize = 2;
 
-/// The bytes of a report beside its lock and its batch.
-const REPORT_BYTES: usize = 60;
+/// The bytes of a report beside its evidence, its lock and its batch.
+const REPORT_BYTES: usize = 59;
+
+/// The bytes of a decision proof as evidence beside its votes.
+const PROOF_BYTES: usize = 43;
+
+/// The bytes of an offer beside its marks.
+const OFFER_BYTES: usize = 17;
 
 /// The bytes of a beginning of a regency beside its reports.
 const SYNC_BYTES: usize = 53;
@@ -109,6 +123,44 @@ fn request_at(sent: &[Sent], number: u64) -> Option<&Signed<Request>>
     match content_at(sent, number) {
         None => None,
         Some(content) => request_of(content),
+    }
+}
+
+/// The mark that a content is.
+fn mark_of(content: &Content) -> Option<&Signed<Mark>>
+    ensures { option_copied result ≡ mark_of content.now }
+{
+    match content {
+        Content::Message(message) => mark_in(message),
+        Content::Raw(_) => None,
+    }
+}
+
+fn mark_at(sent: &[Sent], number: u64) -> Option<&Signed<Mark>>
+    ensures { option_copied result ≡ option_and_then mark_of (content_at sent.now number) }
+{
+    match content_at(sent, number) {
+        None => None,
+        Some(content) => mark_of(content),
+    }
+}
+
+/// The decided batch that a content shows.
+fn decision_of(content: &Content) -> Option<&ProvenBatch>
+    ensures { option_copied result ≡ decision_of content.now }
+{
+    match content {
+        Content::Message(message) => decision_in(message),
+        Content::Raw(_) => None,
+    }
+}
+
+fn decision_at(sent: &[Sent], number: u64) -> Option<&ProvenBatch>
+    ensures { option_copied result ≡ option_and_then decision_of (content_at sent.now number) }
+{
+    match content_at(sent, number) {
+        None => None,
+        Some(content) => decision_of(content),
     }
 }
 
@@ -167,20 +219,92 @@ fn reports_len(sent: &[Sent], numbers: &[u64]) -> Option<usize>
     Some(bytes)
 }
 
-/// Whether a report that takes over what the report of a number has is there and short enough.
-fn fits_report(sent: &[Sent], lock: Option<u64>) -> bool
-    ensures { result ≡ fits_report (locked_at sent.now lock) }
+/// How many bytes votes of regency 0 have.
+fn early_len(votes: &[Signed<Ballot>]) -> usize
+    requires { length votes.now < 2 ^ 16 }
+    ensures value { result ≡ length (flat_map (signed_text ballots) (filter is_early votes.now)) }
+    ensures small { result < 2 ^ 50 }
+{
+    let mut bytes = 0;
+    for vote in votes {
+        if is_early(vote) {
+            bytes += vote.text_len();
+        }
+    }
+    bytes
+}
+
+/// How many bytes the evidence of a number's decision has, if the decision is there; one if none is named.
+fn evidence_len(sent: &[Sent], decision: Option<u64>) -> Option<usize>
+    ensures value { result ≡ option_map evident_len (evident_at sent.now 0 decision) }
+    ensures small { IfSome result (λ bytes. bytes < 2 ^ 51) }
+{
+    match decision {
+        None => Some(1),
+        Some(number) => match decision_at(sent, number) {
+            None => None,
+            Some(proven) => Some(PROOF_BYTES + early_len(proven.accepts.as_slice())),
+        },
+    }
+}
+
+/// How many bytes the lock and the batch of a number's report have, if the report is there; one each if
+/// none is named.
+fn locked_len(sent: &[Sent], lock: Option<u64>) -> Option<usize>
+    ensures value { result ≡ option_map locked_len (locked_at sent.now lock) }
+    ensures small { IfSome result (λ bytes. bytes < 2 ^ 52) }
 {
     match lock {
-        None => true,
+        None => Some(2),
         Some(number) => match report_at(sent, number) {
-            None => false,
-            Some(reported) => {
-                let lock = lock_len(&reported.head.statement().lock);
-                let batch = batch_len(&reported.batch);
-                REPORT_BYTES + (lock + batch) <= MESSAGE_BYTES
-            }
+            None => None,
+            Some(reported) => Some(
+                lock_len(&reported.head.statement().lock) + batch_len(&reported.batch),
+            ),
         },
+    }
+}
+
+/// Whether a report that takes over what a decision shows, and what the report of a number has, is short
+/// enough; both are there.
+fn fits_report(sent: &[Sent], evidence: Option<u64>, lock: Option<u64>) -> bool
+    ensures { result ≡ fits_report (evident_at sent.now 0 evidence) (locked_at sent.now lock) }
+{
+    let Some(evidence) = evidence_len(sent, evidence) else {
+        return false;
+    };
+    let Some(lock) = locked_len(sent, lock) else {
+        return false;
+    };
+    REPORT_BYTES + (evidence + lock) <= MESSAGE_BYTES
+}
+
+/// How many bytes the marks of messages have, where all are there.
+fn marks_len(sent: &[Sent], numbers: &[u64]) -> Option<usize>
+    requires { length numbers.now ≤ MARKS }
+    ensures value { result ≡ option_map (λ ms. length (flat_map (signed_text marks) ms)) (marks_at sent.now numbers.now) }
+    ensures small { IfSome result (λ bytes. bytes < 2 ^ 40) }
+{
+    let mut bytes = 0;
+    for number in numbers {
+        match mark_at(sent, *number) {
+            None => return None,
+            Some(mark) => bytes += mark.text_len(),
+        }
+    }
+    Some(bytes)
+}
+
+/// Whether the marks of messages are there, few and short enough.
+fn fits_offer(sent: &[Sent], numbers: &[u64]) -> bool
+    ensures { result ≡ fits_marks numbers.now (marks_at sent.now numbers.now) }
+{
+    if MARKS < numbers.len() {
+        return false;
+    }
+    match marks_len(sent, numbers) {
+        None => false,
+        Some(bytes) => OFFER_BYTES + bytes <= MESSAGE_BYTES,
     }
 }
 
@@ -199,7 +323,7 @@ fn fits_sync(sent: &[Sent], numbers: &[u64]) -> bool
 
 /// Whether a form can be injected: all that it names is there, and it passes no limit. It takes no
 /// memory to tell.
-#[tactic(auto, unfolding(world_rules::specs::Injections::injected_bytes), using(crate::proofs::SizeLaws::report_fits, crate::proofs::SizeLaws::sync_fits))]
+#[tactic(auto, unfolding(world_rules::specs::Injections::injected_bytes), using(crate::proofs::SizeLaws::report_fits, crate::proofs::SizeLaws::sync_fits, crate::proofs::SizeLaws::offer_fits, crate::proofs::SizeLaws::part_fits))]
 pub fn is_injectable(sent: &[Sent], form: &Injection) -> bool
     ensures { result ≡ is_some (injected_bytes sent.now form.now) }
 {
@@ -208,20 +332,14 @@ pub fn is_injectable(sent: &[Sent], form: &Injection) -> bool
         | Injection::Stop { .. }
         | Injection::Reply { .. }
         | Injection::Mark { .. }
+        | Injection::StateAsk { .. }
         | Injection::Raw { .. } => true,
         Injection::Propose { asks, .. } => is_proposable(sent, asks.as_slice()),
         Injection::Vote { proposal, .. } => batch_at(sent, *proposal).is_some(),
-        Injection::StopData {
-            evidence: None,
-            lock,
-            ..
-        } => fits_report(sent, *lock),
-        // So far no message is a decision.
-        Injection::StopData {
-            evidence: Some(_),
-            ..
-        } => false,
+        Injection::StopData { evidence, lock, .. } => fits_report(sent, *evidence, *lock),
         Injection::Sync { reports, .. } => fits_sync(sent, reports.as_slice()),
+        Injection::Offer { marks, .. } => fits_offer(sent, marks.as_slice()),
+        Injection::Part { bytes, .. } => bytes.len() <= PIECE_BYTES,
     }
 }
 
@@ -405,6 +523,141 @@ fn mark_bytes(
     spelled(alloc, Message::Mark(signed))
 }
 
+/// The marks of messages.
+fn marks_at(
+    alloc: Global,
+    sent: &[Sent],
+    numbers: &[u64],
+) -> Result<Option<Sequence<Signed<Mark>>>, AllocError>
+    ensures value { IfOk result (λ marks. marks ≡ marks_at sent.now numbers.now) }
+    ensures count { IfOk result (λ marks. IfSome marks (λ ms. length ms ≡ length numbers.now)) }
+{
+    let mut list = Sequence::new(alloc);
+    for number in numbers {
+        match mark_at(sent, *number) {
+            None => return Ok(None),
+            Some(mark) => list.push(mark.duplicate(alloc)?)?,
+        }
+    }
+    Ok(Some(list))
+}
+
+fn offer_bytes(
+    alloc: Global,
+    sent: &[Sent],
+    member: MemberId,
+    place: Place,
+    size: u32,
+    numbers: &[u64],
+) -> Result<Option<Bytes>, AllocError>
+    ensures { IfOk result (λ bytes. bytes ≡ (if nat_le (length numbers.now) MARKS then option_and_then (offer_bytes member place size) (marks_at sent.now numbers.now) else None)) }
+{
+    if MARKS < numbers.len() {
+        return Ok(None);
+    }
+    match marks_at(alloc, sent, numbers)? {
+        None => Ok(None),
+        Some(marks) => {
+            let offer = StateOffer {
+                member,
+                place,
+                size,
+                marks: SignedList::from_list(marks),
+            };
+            short_spelling(alloc, Message::StateOffer(offer))
+        }
+    }
+}
+
+fn part_bytes(
+    alloc: Global,
+    place: Place,
+    index: u32,
+    total: u32,
+    bytes: &Bytes,
+) -> Result<Option<Bytes>, AllocError>
+    ensures { IfOk result (λ text. text ≡ (if nat_le (length bytes.now) PIECE_BYTES then Some (spelling (changes.StatePart (record { place = place; index = index; total = total; bytes = bytes.now }))) else None)) }
+{
+    if PIECE_BYTES < bytes.len() {
+        return Ok(None);
+    }
+    let part = StatePart {
+        place,
+        index,
+        total,
+        bytes: Piece::new(bytes.duplicate(alloc)?),
+    };
+    spelled(alloc, Message::StatePart(part))
+}
+
+fn is_early(vote: &Signed<Ballot>) -> bool
+    ensures { result ≡ is_early vote.now }
+{
+    vote.statement().slot.regency == Regency::new(0)
+}
+
+/// Copies of votes of regency 0.
+fn early_accepts(alloc: Global, votes: &[Signed<Ballot>]) -> Result<SignedList<Ballot>, AllocError>
+    requires { length votes.now < 2 ^ 16 }
+    ensures { IfOk result (λ list. list ≡ filter is_early votes.now) }
+{
+    let mut list = Sequence::new(alloc);
+    for vote in votes {
+        if is_early(vote) {
+            list.push(vote.duplicate(alloc)?)?;
+        }
+    }
+    Ok(SignedList::from_list(list))
+}
+
+/// The view of the first vote; a given one if there is none.
+fn view_of_first(view: ViewNo, votes: &[Signed<Ballot>]) -> ViewNo
+    ensures { result ≡ view_of_first view votes.now }
+{
+    match votes.first() {
+        None => view,
+        Some(vote) => vote.statement().slot.view,
+    }
+}
+
+/// What a decision shows: its place, and its votes of regency 0 as evidence.
+fn evident_by(alloc: Global, view: ViewNo, proven: &ProvenBatch) -> Result<Evident, AllocError>
+    ensures { IfOk result (λ shown. evident_of shown ≡ evident_by view proven.now) }
+{
+    let accepts = early_accepts(alloc, proven.accepts.as_slice())?;
+    let proof = DecisionProof {
+        view: view_of_first(view, accepts.as_slice()),
+        regency: Regency::new(0),
+        digest: digest_of(alloc, &proven.batch)?,
+        accepts,
+    };
+    Ok(Evident {
+        last: proven.place,
+        evidence: Evidence::Decided(proof),
+    })
+}
+
+/// What the decision of a number shows; place 0 without evidence if none is named.
+fn evident_at(
+    alloc: Global,
+    sent: &[Sent],
+    view: ViewNo,
+    decision: Option<u64>,
+) -> Result<Option<Evident>, AllocError>
+    ensures { IfOk result (λ shown. option_map evident_of shown ≡ evident_at sent.now view decision) }
+{
+    match decision {
+        None => Ok(Some(Evident {
+            last: Place::zero(),
+            evidence: Evidence::Nothing,
+        })),
+        Some(number) => match decision_at(sent, number) {
+            None => Ok(None),
+            Some(proven) => Ok(Some(evident_by(alloc, view, proven)?)),
+        },
+    }
+}
+
 /// The lock of a report, and its batch: none, or those of the report of a number.
 fn locked_at(alloc: Global, sent: &[Sent], lock: Option<u64>) -> Result<Option<Locked>, AllocError>
     ensures { IfOk result (λ locked. option_map locked_of locked ≡ locked_at sent.now lock) }
@@ -431,16 +684,17 @@ fn locked_bytes(
     signer: MemberId,
     view: ViewNo,
     regency: Regency,
+    evident: Evident,
     locked: Locked,
 ) -> Result<Option<Bytes>, AllocError>
     requires { ring.now ≡ group_secret }
-    ensures { IfOk result (λ bytes. bytes ≡ report_bytes signer view regency (locked_of locked)) }
+    ensures { IfOk result (λ bytes. bytes ≡ report_bytes signer view regency (evident_of evident) (locked_of locked)) }
 {
     let report = Report {
         view,
         regency,
-        last: Place::zero(),
-        evidence: Evidence::Nothing,
+        last: evident.last,
+        evidence: evident.evidence,
         lock: locked.lock,
     };
     let batch = locked.batch;
@@ -456,14 +710,15 @@ fn report_bytes(
     signer: MemberId,
     view: ViewNo,
     regency: Regency,
+    evident: Evident,
     lock: Option<u64>,
 ) -> Result<Option<Bytes>, AllocError>
     requires { ring.now ≡ group_secret }
-    ensures { IfOk result (λ bytes. bytes ≡ option_and_then (report_bytes signer view regency) (locked_at sent.now lock)) }
+    ensures { IfOk result (λ bytes. bytes ≡ option_and_then (report_bytes signer view regency (evident_of evident)) (locked_at sent.now lock)) }
 {
     match locked_at(alloc, sent, lock)? {
         None => Ok(None),
-        Some(locked) => locked_bytes(alloc, ring, signer, view, regency, locked),
+        Some(locked) => locked_bytes(alloc, ring, signer, view, regency, evident, locked),
     }
 }
 
@@ -564,14 +819,14 @@ fn injected_bytes(
             signer,
             view,
             regency,
-            evidence: None,
+            evidence,
             lock,
-        } => report_bytes(alloc, ring, sent, *signer, *view, *regency, *lock),
-        // So far no message is a decision.
-        Injection::StopData {
-            evidence: Some(_),
-            ..
-        } => Ok(None),
+        } => match evident_at(alloc, sent, *view, *evidence)? {
+            None => Ok(None),
+            Some(evident) => {
+                report_bytes(alloc, ring, sent, *signer, *view, *regency, evident, *lock)
+            }
+        },
         Injection::Sync {
             signer,
             view,
@@ -590,6 +845,30 @@ fn injected_bytes(
             place,
             digest,
         } => mark_bytes(alloc, ring, *signer, *place, *digest),
+        Injection::StateAsk {
+            member,
+            place,
+            fetch,
+        } => {
+            let ask = StateAsk {
+                member: *member,
+                place: *place,
+                fetch: *fetch,
+            };
+            spelled(alloc, Message::StateAsk(ask))
+        }
+        Injection::Offer {
+            member,
+            place,
+            size,
+            marks,
+        } => offer_bytes(alloc, sent, *member, *place, *size, marks.as_slice()),
+        Injection::Part {
+            place,
+            index,
+            total,
+            bytes,
+        } => part_bytes(alloc, *place, *index, *total, bytes),
         Injection::Raw { bytes } => Ok(Some(bytes.duplicate(alloc)?)),
     }
 }

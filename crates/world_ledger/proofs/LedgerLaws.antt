@@ -1,5 +1,5 @@
--- An index of texts says of a further text whether it clashes, and stays one where it does not.
-use Rattle.std.proofs.Common.{◌≡◌, ℕ, inl, inr, Bool, true, false, List, [], ◌∷◌, ◌++◌, map, Option, Some, None, refl, ap, sym, ◌∙◌, ⊎_elim}
+-- An index of texts says of a further text whether it clashes and whether it is new, and stays one where it does not clash.
+use Rattle.std.proofs.Common.{◌≡◌, ℕ, inl, inr, ◌⊎◌, Bool, true, false, List, [], ◌∷◌, ◌++◌, map, Option, Some, None, refl, ap, sym, subst, ◌∙◌, ⊎_elim, append_assoc}
 use Rattle.std.specs.Prelude.{◌&&◌, ◌||◌, not, cond, nat_eq, option_to_list}
 use Rattle.std.specs.Cmp.Lexicographic.{pointwise, bytes_decides}
 use Rattle.std.specs.List.{list_any}
@@ -11,11 +11,11 @@ use Rattle.smart_base.proofs.SameLists.{same_list-equal}
 use Rattle.smart_statements.specs.Batches.{Batch, batch_text}
 use Rattle.smart_messages.specs.Messages.{batch_in}
 use Rattle.smart_keys.specs.Keys.{digest}
-use Rattle.world_rules.specs.Premises.{Claim, batches, batches_met, texts_in, met, clash, collides}
+use Rattle.world_rules.specs.Premises.{Claim, batches, batches_met, texts_in, met, clash, collides, texts_met, newly_met, marked_with}
 use Rattle.world_rules.specs.declared.message.Content.{Content}
 use Rattle.world_rules.specs.declared.message.Content.TheVariants as contents
 use Rattle.world_rules.specs.declared.message.Sent.{Sent}
-use Rattle.world_ledger.specs.Ledgers.{IsIndex, IsTextOf, indexed}
+use Rattle.world_ledger.specs.Ledgers.{LedgerState, IsIndex, IsTextOf, indexed}
 use Rattle.world_ledger.specs.Statements.{claim_of}
 use Rattle.world_ledger.specs.declared.stated.Stated.{Stated}
 
@@ -61,6 +61,10 @@ second_holds false b x = x
 not_false : (b : Bool) → not b ≡ false → b ≡ true
 not_false true is = refl
 not_false false is = absurd (cc)
+
+not_true : (b : Bool) → not b ≡ true → b ≡ false
+not_true true is = absurd (cc)
+not_true false is = refl
 
 -- two texts
 
@@ -109,6 +113,52 @@ found_by texts b bs text false differ index some = rw (differ, some_clashes b te
 pub found : (texts : List ℕ → Option (List ℕ)) (b : List ℕ) (bs : List (List ℕ)) (text : List ℕ) → IsIndex texts bs → texts (digest b) ≡ Some text
     → not (same_bytes b text) ≡ list_any (clash b) bs
 found texts b bs text index some = found_by texts b bs text (same_bytes b text) refl index some
+
+-- a text that is new
+
+-- where nothing stands under its digest, no text has that
+none_has : (texts : List ℕ → Option (List ℕ)) (b : List ℕ) (bs : List (List ℕ)) → texts (digest b) ≡ None → Each (λ a. texts (digest a) ≡ Some a) bs
+    → list_any (λ other. same_bytes (digest b) (digest other)) bs ≡ false
+none_has texts b [] none stands = refl
+none_has texts b (a ∷ rest) none stands =
+    either (same_bytes (digest b) (digest a)) (list_any (λ other. same_bytes (digest b) (digest other)) rest) (differs (same_bytes (digest b) (digest a)) refl) (none_has texts b rest none stands.1)
+  where
+    differs : (t : Bool) → same_bytes (digest b) (digest a) ≡ t → t ≡ false
+    differs true same =
+        let there : None ≡ Some a = sym none ∙ (ap texts (same_bytes-true (digest b) (digest a) same) ∙ stands.0) in
+        absurd (cc)
+    differs false same = refl
+
+some_has : (b text : List ℕ) (bs : List (List ℕ)) → IsTextOf (digest b) text bs → list_any (λ other. same_bytes (digest b) (digest other)) bs ≡ true
+some_has b text [] stands = absurd stands
+some_has b text (a ∷ rest) stands =
+    ⊎_elim
+    (λ here. first_holds (same_bytes (digest b) (digest a)) (list_any (λ other. same_bytes (digest b) (digest other)) rest) (rw here.0 (same_bytes-refl (digest b))))
+    (λ there. second_holds (same_bytes (digest b) (digest a)) (list_any (λ other. same_bytes (digest b) (digest other)) rest) (some_has b text rest there)) stands
+
+-- nothing stands under the digest of a text: it is new
+pub missing-new : (texts : List ℕ → Option (List ℕ)) (b : List ℕ) (bs : List (List ℕ)) → IsIndex texts bs → texts (digest b) ≡ None → true ≡ newly_met bs b
+unfolding newly_met
+missing-new texts b bs index none = rw (none_has texts b bs none index.stands) refl
+
+-- something stands there: it is not
+pub found-new : (texts : List ℕ → Option (List ℕ)) (b : List ℕ) (bs : List (List ℕ)) (text : List ℕ) → IsIndex texts bs → texts (digest b) ≡ Some text
+    → false ≡ newly_met bs b
+unfolding newly_met
+found-new texts b bs text index some = rw (some_has b text bs (index.comes (digest b) text some)) refl
+
+-- a text clashes with none that has another digest
+apart-free : (b : List ℕ) (bs : List (List ℕ)) → list_any (λ other. same_bytes (digest b) (digest other)) bs ≡ false → list_any (clash b) bs ≡ false
+apart-free b [] none = refl
+apart-free b (a ∷ rest) none =
+    let here = either_first (same_bytes (digest b) (digest a)) (list_any (λ other. same_bytes (digest b) (digest other)) rest) none in
+    let there = either_second (same_bytes (digest b) (digest a)) (list_any (λ other. same_bytes (digest b) (digest other)) rest) none in
+    either (clash b a) (list_any (clash b) rest) (first_false (same_bytes (digest b) (digest a)) (not (same_bytes b a)) here) (apart-free b rest there)
+
+-- so one that is new clashes with none
+new-free : (b : List ℕ) (bs : List (List ℕ)) → newly_met bs b ≡ true → list_any (clash b) bs ≡ false
+unfolding newly_met
+new-free b bs new = apart-free b bs (not_true (list_any (λ other. same_bytes (digest b) (digest other)) bs) new)
 
 -- an index that grows
 
@@ -190,11 +240,76 @@ batches-end sent s = flat_map-append (λ x. batches x.content) sent (s ∷ []) �
 met-end : (sent : List Sent) (s : Sent) → met (sent ++ s ∷ []) ≡ met sent ++ texts_in s.content
 met-end sent s = ap (λ (bs : List Batch). map batch_text bs) (batches-end sent s) ∙ map-append batch_text (batches_met sent) (batches s.content)
 
+-- the same texts in another order
+
+each-left : {A : Type 0} (P : A → Type 0) (xs ys : List A) → Each P (xs ++ ys) → Each P xs
+each-left P [] ys all = tt
+each-left P (x ∷ xs) ys all = (all.0, each-left P xs ys all.1)
+
+each-right : {A : Type 0} (P : A → Type 0) (xs ys : List A) → Each P (xs ++ ys) → Each P ys
+each-right P [] ys all = all
+each-right P (x ∷ xs) ys all = each-right P xs ys all.1
+
+each-both : {A : Type 0} (P : A → Type 0) (xs ys : List A) → Each P xs → Each P ys → Each P (xs ++ ys)
+each-both P [] ys front rest = rest
+each-both P (x ∷ xs) ys front rest = (front.0, each-both P xs ys front.1 rest)
+
+text-left : (key text : List ℕ) (xs ys : List (List ℕ)) → IsTextOf key text xs → IsTextOf key text (xs ++ ys)
+text-left key text [] ys stands = absurd stands
+text-left key text (x ∷ xs) ys stands = ⊎_elim (λ here. inl here) (λ there. inr (text-left key text xs ys there)) stands
+
+text-right : (key text : List ℕ) (xs ys : List (List ℕ)) → IsTextOf key text ys → IsTextOf key text (xs ++ ys)
+text-right key text [] ys stands = stands
+text-right key text (x ∷ xs) ys stands = inr (text-right key text xs ys stands)
+
+text-either : (key text : List ℕ) (xs ys : List (List ℕ)) → IsTextOf key text (xs ++ ys) → IsTextOf key text xs ⊎ IsTextOf key text ys
+text-either key text [] ys stands = inr stands
+text-either key text (x ∷ xs) ys stands =
+    elim stands [ inl here ↦ inl (inl here) | inr later ↦ elim (text-either key text xs ys later) [ inl front ↦ inl (inr front) | inr back ↦ inr back ] ]
+
+text-swap : (key text : List ℕ) (xs ys zs : List (List ℕ)) → IsTextOf key text ((xs ++ ys) ++ zs) → IsTextOf key text ((xs ++ zs) ++ ys)
+text-swap key text xs ys zs stands =
+    elim (text-either key text (xs ++ ys) zs stands) [
+      | inl front ↦ elim (text-either key text xs ys front) [
+        | inl first ↦ text-left key text (xs ++ zs) ys (text-left key text xs zs first)
+        | inr second ↦ text-right key text (xs ++ zs) ys second
+      ]
+      | inr last ↦ text-left key text (xs ++ zs) ys (text-right key text xs zs last)
+    ]
+
+index-swap : (f : List ℕ → Option (List ℕ)) (xs ys zs : List (List ℕ)) → IsIndex f ((xs ++ ys) ++ zs) → IsIndex f ((xs ++ zs) ++ ys)
+index-swap f xs ys zs index =
+    let P : List ℕ → Type 0 = λ t. f (digest t) ≡ Some t in
+    let front : Each P (xs ++ ys) = each-left P (xs ++ ys) zs index.stands in
+    let rest : Each P zs = each-right P (xs ++ ys) zs index.stands in
+    record {
+      stands = each-both P (xs ++ zs) ys (each-both P xs zs (each-left P xs ys front) rest) (each-right P xs ys front);
+      comes = λ key text some. text-swap key text xs ys zs (index.comes key text some);
+    }
+
 -- an index with the texts of one more message that does not collide
-pub index-more : (f g : List ℕ → Option (List ℕ)) (sent : List Sent) (s : Sent) → IsIndex f (met sent) → collides (met sent) (texts_in s.content) ≡ false
-    → ((d : List ℕ) → g d ≡ indexed f (texts_in s.content) d) → IsIndex g (met (sent ++ s ∷ []))
+pub index-more : (f g : List ℕ → Option (List ℕ)) (sent : List Sent) (marked : List (List ℕ)) (s : Sent) → IsIndex f (texts_met sent marked)
+    → collides (texts_met sent marked) (texts_in s.content) ≡ false → ((d : List ℕ) → g d ≡ indexed f (texts_in s.content) d) → IsIndex g (texts_met (sent ++ s ∷ []) marked)
 unfolding collides
-index-more f g sent s index free more = rw (met-end sent s) (index-content f g (met sent) s.content index free more)
+index-more f g sent marked s index free more =
+    subst (λ (texts : List (List ℕ)). IsIndex g (texts ++ marked)) (sym (met-end sent s))
+    (index-swap g (met sent) marked (texts_in s.content) (index-content f g (texts_met sent marked) s.content index free more))
+
+-- an index with one more snapshot, which is new
+pub index-snapshot : (f g : List ℕ → Option (List ℕ)) (sent : List Sent) (marked : List (List ℕ)) (snapshot : List ℕ) → IsIndex f (texts_met sent marked)
+    → newly_met (texts_met sent marked) snapshot ≡ true → ((d : List ℕ) → g d ≡ indexed f (snapshot ∷ []) d) → IsIndex g (texts_met sent (marked ++ snapshot ∷ []))
+index-snapshot f g sent marked snapshot index new more =
+    subst (λ (texts : List (List ℕ)). IsIndex g texts) (append_assoc (met sent) marked (snapshot ∷ []))
+    (index-end f g (texts_met sent marked) snapshot index (new-free snapshot (texts_met sent marked) new) more)
+
+-- a snapshot that is not new leaves a ledger as it was
+pub met_known : (l : LedgerState) (snapshot : List ℕ) → newly_met (texts_met l.sent l.marked) snapshot ≡ false → l ≡ record l { marked = marked_with l.sent l.marked snapshot }
+met_known l snapshot known = rw known refl
+
+-- one that is new is added
+pub met_new : (l : LedgerState) (snapshot : List ℕ) → newly_met (texts_met l.sent l.marked) snapshot ≡ true
+    → record l { marked = l.marked ++ snapshot ∷ [] } ≡ record l { marked = marked_with l.sent l.marked snapshot }
+met_new l snapshot new = rw new refl
 
 -- an index of no text
 pub index_none : IsIndex (λ d. None) []

@@ -1,12 +1,17 @@
--- The indexes of a ledger: of texts by their digests, and of the statements that their signers have sent.
+-- What a ledger has, and its indexes: of texts by their digests, and of the statements that their signers have sent.
 use Rattle.std.specs.Prelude.{◌≡◌, ℕ, ◌⊎◌, Bool, List, [], ◌∷◌, Option, Some, cond, nat_eq}
 use Rattle.std.specs.Cmp.Lexicographic.{pointwise}
 use Rattle.smart_base.specs.Lists.{Each}
 use Rattle.smart_keys.specs.Keys.{digest}
-use Rattle.world_rules.specs.Premises.{met}
+use Rattle.world_rules.specs.Premises.{texts_met}
 use Rattle.world_rules.specs.declared.message.Sent.{Sent}
 use Rattle.world_ledger.specs.declared.stated.Stated.{Stated}
 use Rattle.world_ledger.specs.Statements.{IsStatedIndex}
+
+-- what a ledger has: the messages that were sent, and the snapshots that were met
+pub record LedgerState : Type 0 where
+  pub sent : List Sent
+  pub marked : List (List ℕ)
 
 -- a text that is one of several, under its digest
 abbrev pub IsTextOf : List ℕ → List ℕ → List (List ℕ) → Type 0
@@ -25,7 +30,7 @@ abbrev pub indexed : (List ℕ → Option (List ℕ)) → List (List ℕ) → Li
 indexed index [] key = index key
 indexed index (t ∷ ts) key = indexed (λ d. cond (pointwise nat_eq (digest t) d) (Some t) (index d)) ts key
 
--- The indexes of messages.
-pub record IsIndexed (index : List ℕ → Option (List ℕ)) (has : Stated → Bool) (sent : List Sent) : Type 0 where
-  pub texts : IsIndex index (met sent)
+-- The indexes of messages and snapshots.
+pub record IsIndexed (index : List ℕ → Option (List ℕ)) (has : Stated → Bool) (sent : List Sent) (marked : List (List ℕ)) : Type 0 where
+  pub texts : IsIndex index (texts_met sent marked)
   pub statements : IsStatedIndex has sent

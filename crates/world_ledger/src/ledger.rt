@@ -1,18 +1,20 @@
-//! The messages that were sent.
-ghost use Rattle.std.specs.Prelude.{◌≡◌, ◌++◌, [], ◌∷◌, ℕ, List, IfOk, OnOk, OnErr, false, nat_eq};
+//! The messages that were sent, and the snapshots that were met.
+ghost use Rattle.std.specs.Prelude.{◌≡◌, ◌++◌, [], ◌∷◌, ℕ, Bool, List, IfOk, OnOk, OnErr, true, false, nat_eq};
 ghost use Rattle.std.specs.Cmp.Lexicographic.{pointwise};
 ghost use Rattle.std.specs.HashMap.{get};
 ghost use Rattle.std.specs.HashSet.{contains};
 ghost use Rattle.std.specs.List.{list_any};
-ghost use Rattle.world_rules.specs.Premises.{texts_in, met, clash, is_forgery, is_forged, collides};
+ghost use Rattle.world_rules.specs.Premises.{texts_in, clash, is_forgery, is_forged, collides, texts_met, newly_met, marked_with};
 ghost use Rattle.world_rules.specs.declared.message.Sent.{Sent};
+ghost use Rattle.world_ledger.specs.declared.stated.Stated.{Stated};
 ghost use Rattle.world_ledger.specs.Statements.{claim_of, same_stated};
 ghost use Rattle.world_ledger.specs.Ledgers.{indexed, IsIndexed};
 
 use crate::claims::claims;
 use crate::content::batch_met;
+use crate::own::own_statements;
 use crate::secret::GroupRing;
-use crate::stated::{Stated, StatedIndex, is_excused, own_statements, put_all};
+use crate::stated::{Stated, StatedIndex, is_excused, put_all};
 use smart_base::equality::same_bytes;
 use smart_base::keys::Digester;
 use smart_base::name::{ClientId, MemberId};
@@ -27,12 +29,13 @@ use world_rules::message::{Content, Origin, Sent};
 /// Texts by their digests.
 type TextIndex = HashMap<[u8; 32], Bytes>;
 
-/// All messages that were sent, in order. No two different texts in them (of batches) have one
-/// digest. Two indexes say of a further text whether it has another's digest, and of a statement
-/// whether its signer has sent it, without a walk over the messages.
+/// All messages that were sent, and the snapshots that were met, in order. No two different texts of
+/// these (of batches and snapshots) have one digest. Two indexes spare a walk over the messages. One says
+/// whether a further text has another's digest, the other whether its signer has sent a statement.
 pub struct Ledger {
     ring: GroupRing,
     sent: Vec<Sent>,
+    marked: Vec<Bytes>,
     texts: TextIndex,
     stated: StatedIndex,
 }
@@ -42,6 +45,7 @@ impl Drop for Ledger {
         let Ledger {
             ring: _ring,
             sent: _sent,
+            marked: _marked,
             texts: _texts,
             stated: _stated,
         } = self;
@@ -49,19 +53,18 @@ impl Drop for Ledger {
 }
 
 impl Model for Ledger {
-    ghost use Rattle.std.specs.Prelude.{List, nat_eq};
+    ghost use Rattle.std.specs.Prelude.{nat_eq};
     ghost use Rattle.std.specs.Cmp.Lexicographic.{pointwise};
     ghost use Rattle.std.specs.HashMap.{get};
-    ghost use Rattle.world_rules.specs.declared.message.Sent.{Sent};
     ghost use Rattle.std.specs.HashSet.{contains};
     ghost use Rattle.world_ledger.specs.Statements.{same_stated};
-    ghost use Rattle.world_ledger.specs.Ledgers.{IsIndexed};
+    ghost use Rattle.world_ledger.specs.Ledgers.{LedgerState, IsIndexed};
 
-    ghost Value = { List Sent };
+    ghost Value = { LedgerState };
 
-    ghost view = { λ l. l.sent.items };
+    ghost view = { λ l. record { sent = l.sent.items; marked = l.marked.items } };
 
-    ghost invariant = { λ l. IsIndexed (get (pointwise nat_eq) l.texts) (contains same_stated l.stated) l.sent.items };
+    ghost invariant = { λ l. IsIndexed (get (pointwise nat_eq) l.texts) (contains same_stated l.stated) l.sent.items l.marked.items };
 }
 
 /// Puts the batch of a content, if it has one, under its digest.
@@ -77,6 +80,17 @@ fn put_batch(alloc: Global, index: &mut TextIndex, content: &Content) -> Result<
     Ok(())
 }
 
+/// Puts a copy of a text under its digest.
+fn put_text(alloc: Global, index: &mut TextIndex, text: &Bytes) -> Result<(), AllocError>
+    ensures ok { OnOk result ((d : List ℕ) → get (pointwise nat_eq) index.new d ≡ indexed (λ d. get (pointwise nat_eq) index.old d) (text.now ∷ []) d) }
+    ensures err { OnErr result ((d : List ℕ) → get (pointwise nat_eq) index.new d ≡ get (pointwise nat_eq) index.old d) }
+{
+    let copy = Bytes::from_slice(alloc, text.as_slice())?;
+    let digest = Sha::digest(text.as_slice());
+    index.insert(digest.get(), copy)?;
+    Ok(())
+}
+
 /// Learns the key of who sent a message, whose tags stand in it. Error: want of memory.
 fn learn_sender(ring: &mut GroupRing, origin: &Origin) -> Result<(), AllocError>
     ensures { ring.new ≡ ring.old }
@@ -88,8 +102,8 @@ fn learn_sender(ring: &mut GroupRing, origin: &Origin) -> Result<(), AllocError>
     }
 }
 
-/// Puts what a message holds that does not collide into the indexes of the messages before it.
-/// Without memory they stay those of these messages.
+/// Puts what a message holds that does not collide into the indexes of the messages before it and of
+/// the snapshots. Without memory they stay those of these messages and snapshots.
 fn put_message(
     alloc: Global,
     ring: &mut GroupRing,
@@ -97,10 +111,11 @@ fn put_message(
     stated: &mut StatedIndex,
     sent: &Sent,
 ) -> Result<(), AllocError>
-    ensures ok { OnOk result ((before : List Sent) → collides (met before) (texts_in sent.now.content) ≡ false → IsIndexed (get (pointwise nat_eq) texts.old) (contains same_stated stated.old) before →
-        IsIndexed (get (pointwise nat_eq) texts.new) (contains same_stated stated.new) (before ++ sent.now ∷ [])) }
-    ensures err { OnErr result ((before : List Sent) → IsIndexed (get (pointwise nat_eq) texts.old) (contains same_stated stated.old) before →
-        IsIndexed (get (pointwise nat_eq) texts.new) (contains same_stated stated.new) before) }
+    ensures ok { OnOk result ((before : List Sent) (marked : List (List ℕ)) → collides (texts_met before marked) (texts_in sent.now.content) ≡ false →
+        IsIndexed (get (pointwise nat_eq) texts.old) (contains same_stated stated.old) before marked →
+        IsIndexed (get (pointwise nat_eq) texts.new) (contains same_stated stated.new) (before ++ sent.now ∷ []) marked) }
+    ensures err { OnErr result ((before : List Sent) (marked : List (List ℕ)) → IsIndexed (get (pointwise nat_eq) texts.old) (contains same_stated stated.old) before marked →
+        IsIndexed (get (pointwise nat_eq) texts.new) (contains same_stated stated.new) before marked) }
 {
     learn_sender(ring, &sent.origin)?;
     let own = own_statements(alloc, ring.get(), sent)?;
@@ -110,13 +125,26 @@ fn put_message(
     Ok(())
 }
 
+/// Puts a snapshot that is new into the index of texts. Without memory it stays as it was.
+fn put_snapshot(alloc: Global, texts: &mut TextIndex, snapshot: &Bytes) -> Result<(), AllocError>
+    ensures ok { OnOk result ((has : Stated → Bool) (sent : List Sent) (marked : List (List ℕ)) → newly_met (texts_met sent marked) snapshot.now ≡ true →
+        IsIndexed (get (pointwise nat_eq) texts.old) has sent marked →
+        IsIndexed (get (pointwise nat_eq) texts.new) has sent (marked ++ snapshot.now ∷ [])) }
+    ensures err { OnErr result ((has : Stated → Bool) (sent : List Sent) (marked : List (List ℕ)) → IsIndexed (get (pointwise nat_eq) texts.old) has sent marked →
+        IsIndexed (get (pointwise nat_eq) texts.new) has sent marked) }
+{
+    put_text(alloc, texts, snapshot)?;
+    Ok(())
+}
+
 impl Ledger {
     pub fn new(alloc: Global) -> Result<Self, AllocError>
-        ensures { IfOk result (λ ledger. ledger ≡ []) }
+        ensures { IfOk result (λ ledger. ledger ≡ record { sent = []; marked = [] }) }
     {
         Ok(Ledger {
             ring: GroupRing::new(alloc)?,
             sent: Vec::new(alloc),
+            marked: Vec::new(alloc),
             texts: HashMap::new(alloc),
             stated: HashSet::new(alloc),
         })
@@ -124,14 +152,14 @@ impl Ledger {
 
     /// The messages, in the order of their numbers.
     pub fn as_slice(&self) -> &[Sent]
-        ensures { result.now ≡ self.now }
+        ensures { result.now ≡ self.now.sent }
     {
         self.sent.as_slice()
     }
 
-    /// Whether a text clashes with one that was met in these messages.
-    fn clashes(&self, text: &[u8]) -> bool
-        ensures { result ≡ list_any (clash text.now) (met self.now) }
+    /// Whether a text clashes with one that was met.
+    pub fn clashes(&self, text: &[u8]) -> bool
+        ensures { result ≡ list_any (clash text.now) (texts_met self.now.sent self.now.marked) }
     {
         let digest = Sha::digest(text).get();
         match self.texts.get(&digest) {
@@ -140,10 +168,10 @@ impl Ledger {
         }
     }
 
-    /// Whether a content brings a text that clashes with one that was met in these messages.
+    /// Whether a content brings a text that clashes with one that was met.
     #[tactic(auto, unfolding(world_rules::specs::Premises::collides))]
     pub fn collides(&self, alloc: Global, content: &Content) -> Result<bool, AllocError>
-        ensures { IfOk result (λ c. c ≡ collides (met self.now) (texts_in content.now)) }
+        ensures { IfOk result (λ c. c ≡ collides (texts_met self.now.sent self.now.marked) (texts_in content.now)) }
     {
         match batch_met(content) {
             None => Ok(false),
@@ -156,14 +184,14 @@ impl Ledger {
 
     /// Whether the signer of a statement, who is not excused, has not sent it.
     fn is_forgery(&self, faulty: &[MemberId], rogue: &[ClientId], stated: &Stated) -> bool
-        ensures { result ≡ is_forgery faulty.now rogue.now self.now (claim_of stated.now) }
+        ensures { result ≡ is_forgery faulty.now rogue.now self.now.sent (claim_of stated.now) }
     {
         !is_excused(faulty, rogue, stated.signer()) && !self.stated.contains(stated)
     }
 
     /// Whether one of several statements is forged.
     fn has_forgery(&self, faulty: &[MemberId], rogue: &[ClientId], found: &[Stated]) -> bool
-        ensures { result ≡ list_any (λ s. is_forgery faulty.now rogue.now self.now (claim_of s)) found.now }
+        ensures { result ≡ list_any (λ s. is_forgery faulty.now rogue.now self.now.sent (claim_of s)) found.now }
     {
         found
             .iter()
@@ -179,7 +207,7 @@ impl Ledger {
         rogue: &[ClientId],
         content: &Content,
     ) -> Result<bool, AllocError>
-        ensures { IfOk result (λ forged. forged ≡ is_forged faulty.now rogue.now self.now content.now) }
+        ensures { IfOk result (λ forged. forged ≡ is_forged faulty.now rogue.now self.now.sent content.now) }
     {
         let found = claims(alloc, self.ring.get(), content)?;
         Ok(self.has_forgery(faulty, rogue, found.as_slice()))
@@ -187,8 +215,8 @@ impl Ledger {
 
     /// Adds a message that does not collide. Without memory the ledger is unchanged.
     pub fn push(&mut self, alloc: Global, sent: Sent) -> Result<(), AllocError>
-        requires { collides (met self.old) (texts_in sent.content) ≡ false }
-        ensures ok { OnOk result (self.new ≡ self.old ++ sent ∷ []) }
+        requires { collides (texts_met self.old.sent self.old.marked) (texts_in sent.content) ≡ false }
+        ensures ok { OnOk result (self.new ≡ record self.old { sent = self.old.sent ++ sent ∷ [] }) }
         ensures err { OnErr result (self.new ≡ self.old) }
     {
         self.sent.reserve(1)?;
@@ -200,6 +228,43 @@ impl Ledger {
             &sent,
         )?;
         self.sent.push(sent)?;
+        Ok(())
+    }
+
+    /// Whether a text is new: none that was met has its digest.
+    fn is_new(&self, text: &[u8]) -> bool
+        ensures { result ≡ newly_met (texts_met self.now.sent self.now.marked) text.now }
+    {
+        let digest = Sha::digest(text).get();
+        match self.texts.get(&digest) {
+            None => true,
+            Some(_) => false,
+        }
+    }
+
+    /// Adds a snapshot that is new. Without memory the ledger is unchanged.
+    fn add(&mut self, alloc: Global, snapshot: Bytes) -> Result<(), AllocError>
+        requires { newly_met (texts_met self.old.sent self.old.marked) snapshot ≡ true }
+        ensures ok { OnOk result (self.new ≡ record self.old { marked = self.old.marked ++ snapshot ∷ [] }) }
+        ensures err { OnErr result (self.new ≡ self.old) }
+    {
+        self.marked.reserve(1)?;
+        put_snapshot(alloc, &mut self.texts, &snapshot)?;
+        self.marked.push(snapshot)?;
+        Ok(())
+    }
+
+    /// Meets a snapshot that a node marked: it is added, if it is new. Without memory the ledger is
+    /// unchanged.
+    #[tactic(auto, using(crate::proofs::LedgerLaws::met_known, crate::proofs::LedgerLaws::met_new))]
+    pub fn meet(&mut self, alloc: Global, snapshot: Bytes) -> Result<(), AllocError>
+        ensures ok { OnOk result (self.new ≡ record self.old { marked = marked_with self.old.sent self.old.marked snapshot }) }
+        ensures err { OnErr result (self.new ≡ self.old) }
+    {
+        if !self.is_new(snapshot.as_slice()) {
+            return Ok(());
+        }
+        self.add(alloc, snapshot)?;
         Ok(())
     }
 }

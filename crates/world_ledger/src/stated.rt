@@ -1,20 +1,16 @@
 //! The statements that their signers have sent, so that one is found without a walk over the
 //! messages.
-ghost use Rattle.std.specs.Prelude.{◌≡◌, ◌≤◌, ◌||◌, IfOk, map, filter, vec_len};
+ghost use Rattle.std.specs.Prelude.{◌≡◌, ◌≤◌, ◌||◌, IfOk, vec_len};
 ghost use Rattle.std.specs.HashSet.{contains, spare};
 ghost use Rattle.std.specs.List.{list_any};
-ghost use Rattle.world_rules.specs.Secrets.{group_secret};
-ghost use Rattle.world_rules.specs.Premises.{claims, is_from, is_among, is_excused};
+ghost use Rattle.world_rules.specs.Premises.{is_among, is_excused};
 ghost use Rattle.world_ledger.specs.declared.stated.Stated.{Stated};
-ghost use Rattle.world_ledger.specs.Statements.{claim_of, same_stated, is_own};
+ghost use Rattle.world_ledger.specs.Statements.{claim_of, same_stated};
 
-use crate::claims::claims;
 use smart_base::name::{ClientId, MemberId};
 use smart_base::party::Party;
-use smart_keys::ring::Ring;
 use std::alloc::{AllocError, Global};
 use std::collections::HashSet;
-use world_rules::message::{Origin, Sent};
 
 /// A statement that its signer has sent: who signed it, and its bytes.
 #[derive(PartialEq, Eq, Hash)]
@@ -63,43 +59,6 @@ impl Stated {
             Party::Client(ClientId::new(self.number))
         }
     }
-}
-
-fn is_from(party: Party, origin: &Origin) -> bool
-    ensures { result ≡ is_from party origin.now }
-{
-    match party {
-        Party::Member(member) => match *origin {
-            Origin::Node(id) => member == id,
-            Origin::Client(_) | Origin::Script => false,
-        },
-        Party::Client(client) => match *origin {
-            Origin::Client(id) => client == id,
-            Origin::Node(_) | Origin::Script => false,
-        },
-    }
-}
-
-/// Those of some statements that their sender has signed.
-fn own(alloc: Global, origin: &Origin, found: Vec<Stated>) -> Result<Vec<Stated>, AllocError>
-    ensures { IfOk result (λ own. map claim_of own.items ≡ filter (is_own origin.now) (map claim_of found.items)) }
-{
-    let mut own = Vec::new(alloc);
-    for stated in found {
-        if is_from(stated.signer(), origin) {
-            own.push(stated)?;
-        }
-    }
-    Ok(own)
-}
-
-/// The statements in a message that its sender has signed, at any depth.
-pub fn own_statements(alloc: Global, ring: &Ring, sent: &Sent) -> Result<Vec<Stated>, AllocError>
-    requires { ring.now ≡ group_secret }
-    ensures { IfOk result (λ own. map claim_of own.items ≡ filter (is_own sent.now.origin) (claims sent.now.content)) }
-{
-    let found = claims(alloc, ring, &sent.content)?;
-    own(alloc, &sent.origin, found)
 }
 
 /// Puts statements into an index that has room for them.

@@ -5,8 +5,8 @@ use Rattle.std.proofs.lemmas.Option.{slice_get_within}
 use Rattle.smart_statements.specs.declared.entry.NodeEvent.{NodeEvent}
 use Rattle.smart_statements.specs.declared.entry.NodeEvent.TheVariants.{Deliver}
 use Rattle.store_laws.specs.States.{is_due}
-use Rattle.store_laws.specs.Unswitched.{never}
-use Rattle.world_rules.specs.Worlds.{Course, Host, World, is_up, is_gone, takes_due, calls_disk, node_takes, settle_once, stepped, host_calls, host_takes, hears_firm, disk_called, is_halted}
+use Rattle.store_laws.specs.Stops.{is_installed}
+use Rattle.world_rules.specs.Worlds.{Course, Host, World, is_up, is_gone, takes_due, calls_disk, node_takes, settle_once, takes_met, host_calls, host_takes, hears_firm, disk_called, is_halted}
 use Rattle.world_nodes.specs.Acting.{acts}
 use Rattle.world_nodes.specs.Crashes.{runs}
 
@@ -45,18 +45,18 @@ not_called : {S : Type 0} (course : Course S) (i : ℕ) (w : World S) (h : Host 
 unfolding calls_disk
 not_called course i w h there fails =
     ap (λ found. cond (is_halted w) w (host_calls course i w found)) there
-    ∙ kept (is_halted w) (is_up w h) (cond (is_due never h.store) (hears_firm course i w (disk_called course h)) w) w fails
+    ∙ kept (is_halted w) (is_up w h) (cond (is_due is_installed h.store) (hears_firm course i w (disk_called course h)) w) w fails
 
 not_taken : {S : Type 0} (course : Course S) (i : ℕ) (event : NodeEvent) (w : World S) (h : Host S) → slice_get w.hosts i ≡ Some h → acts w (Some h) ≡ false → node_takes course i event w ≡ w
 unfolding node_takes
 not_taken course i event w h there fails =
     ap (λ found. cond (is_halted w) w (host_takes course i event w found)) there
-    ∙ kept (is_halted w) (is_up w h) (stepped course w i h (course.step h.node event)) w fails
+    ∙ kept (is_halted w) (is_up w h) (takes_met course i event w h) w fails
 
 none_due : {S : Type 0} (course : Course S) (i : ℕ) (w : World S) (found : Option (Host S)) → slice_get w.hosts i ≡ found → acts w found ≡ false → takes_due course i w found ≡ w
 none_due course i w None is fails = refl
 none_due course i w (Some h) is fails =
-    either (is_due never h.store) (is_some h.node.waiting) (calls_disk course i w) (node_takes course i Deliver w) w (not_called course i w h is fails) (not_taken course i Deliver w h is fails)
+    either (is_due is_installed h.store) (is_some h.node.waiting) (calls_disk course i w) (node_takes course i Deliver w) w (not_called course i w h is fails) (not_taken course i Deliver w h is fails)
 
 -- nothing is due where nothing may happen
 pub rests : {S : Type 0} (course : Course S) (i : ℕ) (w : World S) → acts w (slice_get w.hosts i) ≡ false → w ≡ settle_once course i w
@@ -68,28 +68,28 @@ not_second true b holds fails = fails
 not_second false b holds fails = cc
 
 -- a device call is due
-pub due_call : {S : Type 0} (course : Course S) (i : ℕ) (w w' : World S) (h : Host S) (due : Bool) → slice_get w.hosts i ≡ Some h → due ≡ (h.up && is_due never h.store) → due ≡ true
+pub due_call : {S : Type 0} (course : Course S) (i : ℕ) (w w' : World S) (h : Host S) (due : Bool) → slice_get w.hosts i ≡ Some h → due ≡ (h.up && is_due is_installed h.store) → due ≡ true
     → w' ≡ calls_disk course i w → w' ≡ takes_due course i w (slice_get w.hosts i)
 due_call course i w w' h due there due_is holds is =
     is ∙ sym (ap (λ found. takes_due course i w found) there
-    ∙ ap (λ b. cond b (calls_disk course i w) (cond (is_some h.node.waiting) (node_takes course i Deliver w) w)) (second h.up (is_due never h.store) (sym due_is ∙ holds)))
+    ∙ ap (λ b. cond b (calls_disk course i w) (cond (is_some h.node.waiting) (node_takes course i Deliver w) w)) (second h.up (is_due is_installed h.store) (sym due_is ∙ holds)))
 
 without_call : {S : Type 0} (course : Course S) (i : ℕ) (w : World S) (h : Host S) (due waits : Bool) → slice_get w.hosts i ≡ Some h → runs (slice_get w.hosts i) ≡ true
-    → due ≡ (h.up && is_due never h.store) → due ≡ false → waits ≡ is_some h.node.waiting → takes_due course i w (slice_get w.hosts i) ≡ cond waits (node_takes course i Deliver w) w
+    → due ≡ (h.up && is_due is_installed h.store) → due ≡ false → waits ≡ is_some h.node.waiting → takes_due course i w (slice_get w.hosts i) ≡ cond waits (node_takes course i Deliver w) w
 without_call course i w h due waits there up due_is fails waits_is =
     let runs_is : h.up ≡ true = subst (λ found. runs found ≡ true) there up in
     ap (λ found. takes_due course i w found) there
-    ∙ (ap (λ b. cond b (calls_disk course i w) (cond (is_some h.node.waiting) (node_takes course i Deliver w) w)) (not_second h.up (is_due never h.store) runs_is (sym due_is ∙ fails))
+    ∙ (ap (λ b. cond b (calls_disk course i w) (cond (is_some h.node.waiting) (node_takes course i Deliver w) w)) (not_second h.up (is_due is_installed h.store) runs_is (sym due_is ∙ fails))
     ∙ ap (λ b. cond b (node_takes course i Deliver w) w) (sym waits_is))
 
 -- a delivery is due
 pub due_delivery : {S : Type 0} (course : Course S) (i : ℕ) (w w' : World S) (h : Host S) (due waits : Bool) → slice_get w.hosts i ≡ Some h → runs (slice_get w.hosts i) ≡ true
-    → due ≡ (h.up && is_due never h.store) → due ≡ false → waits ≡ is_some h.node.waiting → waits ≡ true → w' ≡ node_takes course i Deliver w → w' ≡ takes_due course i w (slice_get w.hosts i)
+    → due ≡ (h.up && is_due is_installed h.store) → due ≡ false → waits ≡ is_some h.node.waiting → waits ≡ true → w' ≡ node_takes course i Deliver w → w' ≡ takes_due course i w (slice_get w.hosts i)
 due_delivery course i w w' h due waits there up due_is fails waits_is holds is =
     is ∙ sym (without_call course i w h due waits there up due_is fails waits_is ∙ ap (λ b. cond b (node_takes course i Deliver w) w) holds)
 
 -- nothing is due
 pub due_none : {S : Type 0} (course : Course S) (i : ℕ) (w : World S) (h : Host S) (due waits : Bool) → slice_get w.hosts i ≡ Some h → runs (slice_get w.hosts i) ≡ true
-    → due ≡ (h.up && is_due never h.store) → due ≡ false → waits ≡ is_some h.node.waiting → waits ≡ false → w ≡ takes_due course i w (slice_get w.hosts i)
+    → due ≡ (h.up && is_due is_installed h.store) → due ≡ false → waits ≡ is_some h.node.waiting → waits ≡ false → w ≡ takes_due course i w (slice_get w.hosts i)
 due_none course i w h due waits there up due_is fails waits_is none =
     sym (without_call course i w h due waits there up due_is fails waits_is ∙ ap (λ b. cond b (node_takes course i Deliver w) w) none)

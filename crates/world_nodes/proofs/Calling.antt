@@ -6,7 +6,7 @@ use Rattle.smart_statements.specs.declared.entry.NodeEvent.{NodeEvent}
 use Rattle.smart_statements.specs.declared.entry.NodeEvent.TheVariants.{Firm}
 use Rattle.node_rules.specs.Nodes.{next_place, view_of}
 use Rattle.node_rules.specs.Steps.{Outcome, leaving}
-use Rattle.world_rules.specs.Worlds.{Course, Host, World, disk_called, stepped, sends_all, hears_firm, host_after, chosen_with, told_drop, told_fired}
+use Rattle.world_rules.specs.Worlds.{Course, Host, World, disk_called, stepped, sends_all, meets, snapshot_in, hears_firm, host_after, chosen_with, told_drop, told_fired}
 use Rattle.world_hosts.specs.Hearing.{firmness}
 use Rattle.world_nodes.specs.Calling.{steps_if, calls}
 
@@ -32,11 +32,13 @@ stepped_set : {S : Type 0} (course : Course S) (w : World S) (i : ℕ) (h : Host
 unfolding stepped
 stepped_set {S = S} course w i h o =
     ap (λ (hs : List (Host S)). sends_all h.node.id (view_of o.node)
+    (meets
     (record w {
       hosts = hs;
       chosen = chosen_with w.chosen (next_place o.node) o.node.waiting;
       told = w.told ++ (told_drop h.node.id o.dropped ++ flat_map (told_fired h.node.id) o.fired);
     })
+    (flat_map snapshot_in o.fired))
     (leaving o.node.firm o.node.held)) (set_twice w.hosts i h (host_after course h o))
 
 heard : {S : Type 0} (course : Course S) (i : ℕ) (w : World S) (h : Host S) (more : Bool)

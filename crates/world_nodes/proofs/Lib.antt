@@ -6,3 +6,4 @@ pub mod Stopping
 pub mod Acting
 pub mod Running
 pub mod Stepping
+pub mod Meeting

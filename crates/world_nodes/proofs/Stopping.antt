@@ -6,13 +6,13 @@ use Rattle.world_rules.specs.Crashes.{images_left, wrong_images}
 use Rattle.world_rules.specs.declared.crash.Image.{Image}
 use Rattle.world_rules.specs.declared.crash.Patch.{Patch}
 use Rattle.world_rules.specs.declared.crash.NotAnImage as stores
-use Rattle.node_rules.specs.Reopening.{damaged}
-use Rattle.world_rules.specs.Secrets.{group_secret, outset_place}
-use Rattle.world_rules.specs.Worlds.{Course, core_course, Host, World, at_host, at_index, at_member, host_index, disk_called, resumes_from}
+use Rattle.node_rules.specs.Reopening.{damage_of}
+use Rattle.world_rules.specs.Secrets.{group_secret}
+use Rattle.world_rules.specs.Worlds.{Course, core_course, Host, World, at_host, at_index, at_member, host_index, disk_called, parts_held, resumes_from}
 use Rattle.world_rules.specs.declared.line.OutLine.{OutLine}
 use Rattle.world_rules.specs.declared.message.Ending.TheVariants.{Premise}
 use Rattle.world_rules.specs.declared.message.Premise.TheVariants.{NotAnImage}
-use Rattle.world_hosts.specs.Lives.{held, node_from, node_in, host_with, told_with}
+use Rattle.world_hosts.specs.Lives.{node_from, node_in, host_with, told_with}
 use Rattle.world_nodes.specs.Crashes.{runs, stops, telling_if, goes_on}
 use Rattle.world_nodes.proofs.Calling.{get_set}
 
@@ -45,15 +45,15 @@ pub refused_at : {S : Type 0} (course : Course S) (image : Image) (patches : Lis
 refused_at {S = S} course image patches i w w' h h' fault there wrong host_is is =
     rw (is, host_is, there, wrong) (ap (λ (hs : List (Host S)). record w { hosts = hs; ending = Some (Premise (NotAnImage fault)) }) (set_same w.hosts i h there))
 
--- a node goes on, by whether an entry is damaged
+-- a node goes on, by whether a part is damaged
 resumed : {S : Type 0} (m : Meaning S) (i : ℕ) (w : World S) (h : Host S) (damage : Option ℕ) → slice_get w.hosts i ≡ Some h
-    → telling_if (record w { hosts = slice_set w.hosts i (host_with h (node_from m w.view h.node.id (held h) damage)) }) (told_with h.node.id (length (held h)) (node_from m w.view h.node.id (held h) damage))
-    ≡ resumes_from (core_course m) i w h (held h) damage
+    → telling_if (record w { hosts = slice_set w.hosts i (host_with h (node_from m w.view w.period h.node.id (parts_held h) damage)) }) (told_with h.node.id (length (parts_held h).entries) (node_from m w.view w.period h.node.id (parts_held h) damage))
+    ≡ resumes_from (core_course m) i w h (parts_held h) damage
 resumed m i w h None there = refl
-resumed {S = S} m i w h (Some entry) there = ap (λ (hs : List (Host S)). record w { hosts = hs }) (set_same w.hosts i h there)
+resumed {S = S} m i w h (Some part) there = ap (λ (hs : List (Host S)). record w { hosts = hs }) (set_same w.hosts i h there)
 
 pub resumed_at : {S : Type 0} (m : Meaning S) (i : ℕ) (w x w' : World S) (h h' : Host S) (line : Option OutLine) → slice_get w.hosts i ≡ Some h
-    → h' ≡ host_with h (node_in m w.view h) → line ≡ told_with h.node.id (length (held h)) (node_in m w.view h)
+    → h' ≡ host_with h (node_in m w.view w.period h) → line ≡ told_with h.node.id (length (parts_held h).entries) (node_in m w.view w.period h)
     → x ≡ record w { hosts = slice_set w.hosts i h' } → w' ≡ telling_if x line → w' ≡ goes_on (core_course m) i w (slice_get w.hosts i)
 resumed_at m i w x w' h h' line there host_is line_is x_is is =
-    rw (is, x_is, line_is, host_is, there) (resumed m i w h (damaged group_secret outset_place w.view (held h)) there)
+    rw (is, x_is, line_is, host_is, there) (resumed m i w h (damage_of m group_secret w.view (parts_held h)) there)

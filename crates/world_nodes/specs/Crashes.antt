@@ -1,13 +1,12 @@
 -- Hosts in a world that crash, and that restart from what their devices hold.
 use Rattle.std.specs.Prelude.{ℕ, Bool, false, not, List, Option, Some, None}
-use Rattle.node_rules.specs.Reopening.{damaged}
+use Rattle.node_rules.specs.Reopening.{damage_of}
 use Rattle.world_rules.specs.Crashes.{images_left, wrong_images}
 use Rattle.world_rules.specs.declared.crash.Image.{Image}
 use Rattle.world_rules.specs.declared.crash.Patch.{Patch}
-use Rattle.world_rules.specs.Secrets.{group_secret, outset_place}
-use Rattle.world_rules.specs.Worlds.{Host, World, Course, telling, crashes_with, resumes_from}
+use Rattle.world_rules.specs.Secrets.{group_secret}
+use Rattle.world_rules.specs.Worlds.{Host, World, Course, telling, crashes_with, parts_held, resumes_from}
 use Rattle.world_rules.specs.declared.line.OutLine.{OutLine}
-use Rattle.world_hosts.specs.Lives.{held}
 
 -- a host whose node runs
 abbrev pub runs : {S : Type 0} → Option (Host S) → Bool
@@ -31,4 +30,4 @@ telling_if w (Some line) = telling w line
 -- the world after a crashed host restarted
 abbrev pub goes_on : {S : Type 0} → Course S → ℕ → World S → Option (Host S) → World S
 goes_on course i w None = w
-goes_on course i w (Some h) = resumes_from course i w h (held h) (damaged group_secret outset_place w.view (held h))
+goes_on course i w (Some h) = resumes_from course i w h (parts_held h) (damage_of course.meaning group_secret w.view (parts_held h))

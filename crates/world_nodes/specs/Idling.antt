@@ -1,7 +1,8 @@
 -- Nodes that take a step, and have nothing to do.
 use Rattle.std.specs.Prelude.{ℕ, Bool, true, false, List, [], ◌∷◌, Option, Some, None}
 use Rattle.smart_statements.specs.declared.entry.NodeEvent.{NodeEvent}
-use Rattle.world_rules.specs.Worlds.{Course, Host, World, stepped, telling_all, told_idle}
+use Rattle.node_rules.specs.Transfers.{completed_by}
+use Rattle.world_rules.specs.Worlds.{Course, Host, World, meets, stepped, takes_met, telling_all, told_idle}
 use Rattle.world_hosts.specs.Hearing.{is_idle}
 use Rattle.world_rules.specs.declared.line.OutLine.{OutLine}
 use Rattle.world_rules.specs.declared.line.OutLine.TheVariants as outs
@@ -10,6 +11,16 @@ use Rattle.world_rules.specs.declared.line.OutLine.TheVariants as outs
 abbrev pub steps : {S : Type 0} → Course S → ℕ → NodeEvent → World S → Option (Host S) → World S
 steps course i event w None = w
 steps course i event w (Some h) = stepped course w i h (course.step h.node event)
+
+-- the world after the text that an event completes at a node was met
+abbrev pub met_at : {S : Type 0} → NodeEvent → World S → Option (Host S) → World S
+met_at event w None = w
+met_at event w (Some h) = meets w (completed_by h.node event)
+
+-- the world after a node that runs took an event
+abbrev pub takes_at : {S : Type 0} → Course S → ℕ → NodeEvent → World S → Option (Host S) → World S
+takes_at course i event w None = w
+takes_at course i event w (Some h) = takes_met course i event w h
 
 -- the world after a step of a node that runs; if no rule fires, the transcript tells that it is idle
 abbrev pub tries : {S : Type 0} → Course S → ℕ → NodeEvent → World S → Option (Host S) → World S

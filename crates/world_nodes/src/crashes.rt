@@ -106,6 +106,7 @@ fn resume_at<S: Service>(world: &mut WorldState<S>, i: usize) -> Result<(), Allo
         world.alloc,
         &mut world.hosts[i],
         &world.view,
+        world.period,
         world.ring.get(),
     )?;
     tell_if(world, line)?;

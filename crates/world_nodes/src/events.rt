@@ -5,10 +5,11 @@ ghost use Rattle.world_rules.specs.Repeats.{repeated};
 ghost use Rattle.world_nodes.specs.Acting.{acts};
 ghost use Rattle.world_nodes.specs.Calling.{steps_if, calls};
 ghost use Rattle.world_nodes.specs.Crashes.{runs};
-ghost use Rattle.world_nodes.specs.Idling.{steps, is_idle_at};
+ghost use Rattle.world_nodes.specs.Idling.{steps, met_at, takes_at, is_idle_at};
 
 use smart_base::duplicate::Duplicate;
 use smart_base::name::MemberId;
+use smart_base::sequence::Bytes;
 use smart_service::service::Service;
 use smart_statements::entry::NodeEvent;
 use std::alloc::AllocError;
@@ -36,16 +37,57 @@ pub fn step_at<S: Service>(
     ensures idle { IfOk result (λ idle. idle ≡ is_idle_at (core_course S.meaning) event.now (slice_get world.old.hosts i)) }
 {
     let id = world.hosts[i].id();
+    let mut marked: Vec<Bytes> = Vec::new(world.alloc);
     let left = step_host(
         world.alloc,
         &mut world.hosts[i],
         &mut world.chosen,
         &mut world.told,
+        &mut marked,
         event,
     )?;
+    // Most steps let nothing leave, and want no copy of the view.
+    if left.messages.is_empty() {
+        world.meet_all(marked)?;
+        return Ok(left.idle);
+    }
     let view = world.hosts[i].view().duplicate(world.alloc)?;
+    world.meet_all(marked)?;
     world.send_all(id, &view, left.messages)?;
     Ok(left.idle)
+}
+
+/// Meets the text that an event completes at the node at an index. Error: want of memory.
+fn meet_completed<S: Service>(
+    world: &mut WorldState<S>,
+    i: usize,
+    event: &NodeEvent,
+) -> Result<(), AllocError>
+    requires { i < length world.old.hosts }
+    ensures { OnOk result (world.new ≡ met_at event.now world.old (slice_get world.old.hosts i)) }
+{
+    let texts = world.hosts[i].completed(world.alloc, event)?;
+    world.meet_all(texts)?;
+    Ok(())
+}
+
+/// Takes an event at the running node at an index. The text that the event completes is met first. Error:
+/// want of memory.
+fn takes_met<S: Service>(
+    world: &mut WorldState<S>,
+    i: usize,
+    event: &NodeEvent,
+) -> Result<(), AllocError>
+    requires within { i < length world.old.hosts }
+    requires up { runs (slice_get world.old.hosts i) ≡ true }
+    ensures { OnOk result (world.new ≡ takes_at (core_course S.meaning) i event.now world.old (slice_get world.old.hosts i)) }
+{
+    meet_completed(world, i, event)?;
+    if world.is_halted() {
+        return Ok(());
+    }
+    let _ = step_at(world, i, event)?;
+    Ok(())
 }
 
 /// Takes an event at the node at an index, if it runs. Error: want of memory.
@@ -61,7 +103,7 @@ pub fn node_takes<S: Service>(
         return Ok(());
     }
     if world.is_up(&world.hosts[i]) {
-        let _ = step_at(world, i, event)?;
+        takes_met(world, i, event)?;
     }
     Ok(())
 }

@@ -1,16 +1,16 @@
 //! The forms of what a script injects.
 ghost use Rattle.std.specs.Prelude.{◌≡◌, ◌<◌, ◌^◌, IfOk, Some};
-ghost use Rattle.world_rules.specs.Scripts.{ask_form, propose_form, vote_form, stop_form, message_or_none, stopdata_by, stopdata_form, sync_form, reply_form, hex_bytes, digest_by, mark_form, raw_form, form_by};
+ghost use Rattle.world_rules.specs.Scripts.{ask_form, propose_form, vote_form, stop_form, message_or_none, stopdata_by, stopdata_form, sync_form, reply_form, hex_bytes, digest_by, mark_form, stateask_form, offer_form, part_form, raw_form, form_by};
 
 use crate::hex::hex_bytes;
 use crate::numbers::{
-    CLIENTS, INDICES, MEMBERS, MESSAGES, NUMBERS, PLACES, SMALL_NUMBERS, messages_in, number_in,
-    numbers_in,
+    CLIENTS, EARLY_PLACES, INDICES, MEMBERS, MESSAGES, NUMBERS, PLACES, SMALL_NUMBERS, messages_in,
+    number_in, numbers_in,
 };
 use crate::words::{Words, behind_spaces, payload_of};
 use smart_base::bytes::Digest32;
 use smart_base::equality::same_bytes;
-use smart_base::limits::BATCH_REQUESTS;
+use smart_base::limits::{BATCH_REQUESTS, MARKS};
 use smart_base::name::{ClientId, MemberId};
 use smart_base::number::{Place, Regency, ViewNo};
 use smart_statements::statement::{Answer, Slot, VoteKind};
@@ -263,6 +263,75 @@ fn mark_form(alloc: Global, mut words: Words<'_>) -> Result<Result<Injection, Ki
     }))
 }
 
+/// `M Q FETCH`.
+fn stateask_form(mut words: Words<'_>) -> Result<Injection, Kind>
+    ensures { result ≡ stateask_form words.entry }
+{
+    if words.count() != 3 {
+        return Err(Kind::Count);
+    }
+    let Some(numbers) = numbers_in(&[MEMBERS, EARLY_PLACES, EARLY_PLACES], &mut words) else {
+        return Err(Kind::Number);
+    };
+    let [member, place, fetch] = numbers;
+    Ok(Injection::StateAsk {
+        member: MemberId::new(member as u16),
+        place: Place::new(place),
+        fetch: Place::new(fetch),
+    })
+}
+
+/// `M K SIZE NUM..`: at most 64 marks.
+fn offer_form(alloc: Global, mut words: Words<'_>) -> Result<Result<Injection, Kind>, AllocError>
+    ensures { IfOk result (λ form. form ≡ offer_form words.entry) }
+{
+    let count = words.count();
+    if count < 3 || count > 3 + MARKS {
+        return Ok(Err(Kind::Count));
+    }
+    let Some(numbers) = numbers_in(&[MEMBERS, EARLY_PLACES, SMALL_NUMBERS], &mut words) else {
+        return Ok(Err(Kind::Number));
+    };
+    let [member, place, size] = numbers;
+    let Some(marks) = messages_in(alloc, words)? else {
+        return Ok(Err(Kind::Number));
+    };
+    Ok(Ok(Injection::Offer {
+        member: MemberId::new(member as u16),
+        place: Place::new(place),
+        size: size as u32,
+        marks,
+    }))
+}
+
+/// `K INDEX TOTAL HEX`: one byte or more.
+fn part_form(alloc: Global, mut words: Words<'_>) -> Result<Result<Injection, Kind>, AllocError>
+    ensures { IfOk result (λ form. form ≡ part_form words.entry) }
+{
+    if words.count() != 4 {
+        return Ok(Err(Kind::Count));
+    }
+    let Some(numbers) = numbers_in(&[PLACES, SMALL_NUMBERS, SMALL_NUMBERS], &mut words) else {
+        return Ok(Err(Kind::Number));
+    };
+    let [place, index, total] = numbers;
+    let Some((word, _)) = words.split_first() else {
+        return Ok(Err(Kind::Count));
+    };
+    let Some(bytes) = hex_bytes(alloc, word)? else {
+        return Ok(Err(Kind::Form));
+    };
+    if bytes.is_empty() {
+        return Ok(Err(Kind::Form));
+    }
+    Ok(Ok(Injection::Part {
+        place: Place::new(place),
+        index: index as u32,
+        total: total as u32,
+        bytes,
+    }))
+}
+
 /// `HEX`: one byte or more.
 fn raw_form(alloc: Global, words: Words<'_>) -> Result<Result<Injection, Kind>, AllocError>
     ensures { IfOk result (λ form. form ≡ raw_form words.entry) }
@@ -308,6 +377,12 @@ pub fn form_by(
         reply_form(alloc, bytes, words)
     } else if same_bytes(word, b"mark") {
         mark_form(alloc, words)
+    } else if same_bytes(word, b"stateask") {
+        Ok(stateask_form(words))
+    } else if same_bytes(word, b"offer") {
+        offer_form(alloc, words)
+    } else if same_bytes(word, b"part") {
+        part_form(alloc, words)
     } else if same_bytes(word, b"raw") {
         raw_form(alloc, words)
     } else {

@@ -59,6 +59,11 @@ pub const PLACES: Range = Range {
     least: 1,
     most: 0x7fff_ffff_ffff_ffff,
 };
+/// Places from 0 on.
+pub const EARLY_PLACES: Range = Range {
+    least: 0,
+    most: 0x7fff_ffff_ffff_ffff,
+};
 /// The indices of requests in a batch.
 pub const INDICES: Range = Range {
     least: 0,
@@ -97,6 +102,19 @@ pub fn client_of(word: &[u8]) -> Option<ClientId>
 {
     let n = number_in(&CLIENTS, word)?;
     Some(ClientId::new(n as u16))
+}
+
+/// The period that a word is, of a group of so many members. In so many places each member takes one
+/// checkpoint.
+pub fn period_in(members: u64, word: &[u8]) -> Option<u32>
+    ensures { result ≡ number_in members constants.LAST_PERIOD word.now }
+{
+    let periods = Range {
+        least: members,
+        most: limits::LAST_PERIOD as u64,
+    };
+    let n = number_in(&periods, word)?;
+    Some(n as u32)
 }
 
 /// A number for each range, in order. Their words are taken. There are none where a word is missing

@@ -2,14 +2,14 @@
 ghost use Rattle.std.specs.Prelude.{◌≡◌, ◌&&◌, ◌<◌, ◌≤◌, nat_le, Ok, Err, IfOk, IfSome, take, ◌+◌};
 ghost use Rattle.std.specs.List.{list_all};
 ghost use Rattle.smart_base.specs.declared.limits.TheConstants.{LINE_BYTES};
-ghost use Rattle.world_rules.specs.Scripts.{is_printed, is_short, is_nothing, number_in, member_of, client_of, each_word, party_of_word, ask_line, again_line, told_line, flow_line, give_line, deliver_line, tick_line, settle_line, disk_with, disk_line, show_line, faulty_line, rogue_line, form_by, injecting, line_by, line_of, members_from, view_for, group_words, group_line, app_line};
+ghost use Rattle.world_rules.specs.Scripts.{is_printed, is_short, is_nothing, number_in, member_of, client_of, each_word, party_of_word, ask_line, again_line, told_line, flow_line, give_line, deliver_line, tick_line, settle_line, disk_with, disk_line, show_line, faulty_line, rogue_line, form_by, injecting, line_by, line_of, members_from, view_for, group_words, group_line, app_line, is_period, period_words, period_line};
 ghost use Rattle.world_rules.specs.declared.line.Kind.{Kind};
 ghost use Rattle.world_script.specs.declared.fault.LineFault.TheVariants as faults;
 
 use crate::crash::{crash_line, restart_line};
 use crate::fault::LineFault;
 use crate::forms::form_by;
-use crate::numbers::{CALLS, MESSAGES, client_of, member_of, number_in};
+use crate::numbers::{CALLS, MESSAGES, client_of, member_of, number_in, period_in};
 use crate::words::{Words, behind_spaces, payload_of, words_in};
 use smart_base::decimal::number_of;
 use smart_base::equality::same_bytes;
@@ -413,5 +413,41 @@ pub fn read_group(alloc: Global, bytes: &[u8]) -> Result<Option<View>, AllocErro
         group_words(alloc, words)
     } else {
         Ok(None)
+    }
+}
+
+/// Whether the first of some words is `period`.
+fn is_period(words: &Words<'_>) -> bool
+    ensures { result ≡ is_period words.now }
+{
+    match words.split_first() {
+        None => false,
+        Some((word, _)) => same_bytes(word, b"period"),
+    }
+}
+
+/// The number that the second of two words states, if it is a period of a group of so many members.
+fn period_words(members: u64, words: Words<'_>) -> Option<u32>
+    ensures { result ≡ period_words members words.entry }
+{
+    let (_, words) = words.split_first()?;
+    let (number, words) = words.split_first()?;
+    match words.split_first() {
+        None => period_in(members, number),
+        Some(_) => None,
+    }
+}
+
+/// The period that the line `period P` states in a group of so many members, if it states one; nothing
+/// at all, if the line is another one.
+#[tactic(auto, unfolding(world_rules::specs::Scripts::period_line))]
+pub fn read_period(members: u64, bytes: &[u8]) -> Option<Option<u32>>
+    ensures { result ≡ period_line members bytes.now }
+{
+    let words = words_in(bytes);
+    if is_period(&words) {
+        Some(period_words(members, words))
+    } else {
+        None
     }
 }

@@ -1,11 +1,10 @@
 //! A world: its hosts and clients, and the messages that leave them.
-ghost use Rattle.std.specs.Prelude.{◌≡◌, ℕ, [], ◌∷◌, IfOk, OnOk, Some, map};
+ghost use Rattle.std.specs.Prelude.{◌≡◌, ℕ, [], ◌∷◌, IfOk, OnOk, Some, map, if◌then◌else◌};
 ghost use Rattle.smart_base.specs.Lists.{or_else};
-ghost use Rattle.smart_base.specs.declared.limits.TheConstants.{PERIOD};
 ghost use Rattle.node_rules.specs.Steps.{opened};
 ghost use Rattle.world_rules.specs.Secrets.{group_secret};
 ghost use Rattle.world_rules.specs.Premises.{is_among};
-ghost use Rattle.world_rules.specs.Worlds.{telling, posts, is_gone, is_rogue, is_up, heard_by, sends, sends_all, host_of_node, hosts_from, outset_of, clients_from, begun, is_halted};
+ghost use Rattle.world_rules.specs.Worlds.{telling, posts, meets, is_gone, is_rogue, is_up, heard_by, sends, sends_all, host_of_node, hosts_from, outset_of, clients_from, begun, is_halted};
 ghost use Rattle.world_rules.specs.Plays.{rested};
 
 use client_quorum::client::{Acceptance, Client};
@@ -14,7 +13,7 @@ use smart_base::duplicate::Duplicate;
 use smart_base::limits::{CLIENTS, MESSAGES};
 use smart_base::name::{ClientId, MemberId};
 use smart_base::party::Party;
-use smart_base::sequence::Sequence;
+use smart_base::sequence::{Bytes, Sequence};
 use smart_base::view::View;
 use smart_keys::ring::Ring;
 use smart_messages::message::Message;
@@ -27,14 +26,15 @@ use world_hosts::host::{Host, is_among};
 use world_ledger::content::sent_line;
 use world_ledger::ledger::Ledger;
 use world_ledger::secret::GroupRing;
-use world_rules::line::OutLine;
+use world_rules::line::{Header, OutLine};
 use world_rules::message::{Content, Ending, Origin, Premise, Sent};
 
-/// The world: hosts and clients, each message that was sent, the chosen list of batches, who breaks
-/// the rules, and what the present script line tells.
+/// The world: hosts and clients, and the list of all that was sent and met. It has the chosen list of
+/// batches, who breaks the rules, and what the present script line tells.
 pub struct WorldState<S> {
     pub alloc: Global,
     pub view: View,
+    pub period: u32,
     pub ring: GroupRing,
     pub hosts: Vec<Host<S>>,
     pub clients: Vec<Client>,
@@ -53,6 +53,7 @@ impl<S: Drop> Drop for WorldState<S> {
         let WorldState {
             alloc: _alloc,
             view: _view,
+            period: _period,
             ring: _ring,
             hosts: _hosts,
             clients: _clients,
@@ -75,9 +76,11 @@ impl<S> Model for WorldState<S> {
 
     ghost view = { λ w. record {
       view = w.view;
+      period = w.period;
       hosts = w.hosts.items;
       clients = w.clients.items;
-      sent = w.sent;
+      sent = w.sent.sent;
+      marked = w.sent.marked;
       mark = w.mark;
       chosen = w.chosen.items;
       accepted = w.accepted.items;
@@ -101,6 +104,16 @@ fn or_limit(ending: Option<Ending>) -> Option<Ending>
     }
 }
 
+/// Ends the play by a collision, if a text clashes.
+fn or_collision(clashes: bool, ending: Option<Ending>) -> Option<Ending>
+    ensures { result ≡ (if clashes then Some (Ending.Premise Premise.Collision) else ending) }
+{
+    if clashes {
+        return Some(Ending::Premise(Premise::Collision));
+    }
+    ending
+}
+
 /// Whether a list has a client.
 fn has_client(clients: &[ClientId], client: ClientId) -> bool
     ensures { result ≡ is_among clients.now client }
@@ -111,28 +124,30 @@ fn has_client(clients: &[ClientId], client: ClientId) -> bool
 fn first_host<S: Service>(
     alloc: Global,
     view: &View,
+    period: u32,
     ring: &Ring,
     id: MemberId,
 ) -> Result<Host<S>, AllocError>
     requires { ring.now ≡ group_secret }
-    ensures { IfOk result (λ h. h ≡ host_of_node (opened (outset_of S.meaning view.now id))) }
+    ensures { IfOk result (λ h. h ≡ host_of_node (opened (outset_of S.meaning view.now period id))) }
 {
     let view = view.duplicate(alloc)?;
     let ring = ring.duplicate(alloc)?;
-    Host::begin(alloc, id, view, ring)
+    Host::begin(alloc, id, view, period, ring)
 }
 
 fn first_hosts<S: Service>(
     alloc: Global,
     view: &View,
+    period: u32,
     ring: &Ring,
 ) -> Result<Vec<Host<S>>, AllocError>
     requires { ring.now ≡ group_secret }
-    ensures { IfOk result (λ hosts. hosts.items ≡ hosts_from S.meaning view.now view.now.members) }
+    ensures { IfOk result (λ hosts. hosts.items ≡ hosts_from S.meaning view.now period view.now.members) }
 {
     let mut hosts: Vec<Host<S>> = Vec::new(alloc);
     for id in view.members() {
-        hosts.push(first_host(alloc, view, ring, *id)?)?;
+        hosts.push(first_host(alloc, view, period, ring, *id)?)?;
     }
     Ok(hosts)
 }
@@ -181,16 +196,19 @@ pub fn heard_by(alloc: Global, view: &View, target: Target) -> Result<Sequence<P
 
 impl<S: Service> WorldState<S> {
     /// The world at the end of a header. Error: want of memory.
-    pub fn begin(alloc: Global, view: View) -> Result<Self, AllocError>
-        ensures { IfOk result (λ world. world ≡ begun S.meaning view) }
+    pub fn begin(alloc: Global, header: &Header) -> Result<Self, AllocError>
+        ensures { IfOk result (λ world. world ≡ begun S.meaning header.now) }
     {
+        let view = header.view.duplicate(alloc)?;
+        let period = header.period;
         let mut ring = GroupRing::new(alloc)?;
         ring.learn_members(view.members())?;
         Ok(WorldState {
             alloc,
-            hosts: first_hosts(alloc, &view, ring.get())?,
+            hosts: first_hosts(alloc, &view, period, ring.get())?,
             clients: first_clients(alloc, CLIENTS)?,
             view,
+            period,
             ring,
             sent: Ledger::new(alloc)?,
             mark: 0,
@@ -268,6 +286,27 @@ impl<S: Service> WorldState<S> {
             return Err(error);
         }
         self.sent.push(self.alloc, sent)
+    }
+
+    /// Meets a snapshot that a node marked. One that clashes with a text that was met ends the play.
+    /// Error: want of memory.
+    fn meet(&mut self, snapshot: Bytes) -> Result<(), AllocError>
+        ensures { OnOk result (self.new ≡ meets self.old (snapshot ∷ [])) }
+    {
+        let clashes = self.sent.clashes(snapshot.as_slice());
+        self.sent.meet(self.alloc, snapshot)?;
+        self.ending = or_collision(clashes, self.ending);
+        Ok(())
+    }
+
+    /// Meets the snapshots that a node marked, in order. Error: want of memory.
+    pub fn meet_all(&mut self, snapshots: Vec<Bytes>) -> Result<(), AllocError>
+        ensures { OnOk result (self.new ≡ meets self.old snapshots.items) }
+    {
+        for snapshot in snapshots {
+            self.meet(snapshot)?;
+        }
+        Ok(())
     }
 
     /// Sends a message to some parties. Error: want of memory.

@@ -8,7 +8,6 @@ ghost use Rattle.world_rules.specs.Texts.{why_text, ignored_text, app_text, orig
 use client_quorum::client::Ignored;
 use message_words::words::{Summary, bound_text, push_summary};
 use node_rules::node::Why;
-use smart_base::limits::PERIOD;
 use std::alloc::{AllocError, Global};
 use std::fmt::{self, Write};
 use world_rules::line::{App, OutLine};
@@ -156,11 +155,16 @@ fn push_two(
     Ok(())
 }
 
-fn push_group(out: &mut String, members: u64, faulty: u8, app: App) -> Result<(), AllocError>
-    ensures { OnOk result (string_bytes out.new ≡ string_bytes out.old ++ words_of (OutLine.Group members faulty app)) }
+fn push_group(
+    out: &mut String,
+    members: u64,
+    faulty: u8,
+    app: App,
+    period: u32,
+) -> Result<(), AllocError>
+    ensures { OnOk result (string_bytes out.new ≡ string_bytes out.old ++ words_of (OutLine.Group members faulty app period)) }
 {
     let app = app_text(app);
-    let period = PERIOD;
     write!(out, "group {members} {faulty} {app} {period}")
 }
 
@@ -232,13 +236,20 @@ fn push_words(out: &mut String, line: &OutLine) -> Result<(), AllocError>
             members,
             faulty,
             app,
-        } => push_group(out, *members, *faulty, *app),
+            period,
+        } => push_group(out, *members, *faulty, *app, *period),
         OutLine::Sent {
             number,
             origin,
             summary,
         } => push_sent(out, *number, *origin, *summary),
         OutLine::Decided { member, place } => push_one(out, "decided n", member.get(), place.get()),
+        OutLine::Installed { member, place } => push_one(
+            out,
+            "installed n",
+            member.get(),
+            place.get(),
+        ),
         OutLine::Delivered {
             member,
             place,

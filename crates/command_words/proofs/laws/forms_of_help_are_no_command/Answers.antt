@@ -1,4 +1,4 @@
-use Rattle.command_words.proofs.Rows.{nothing, short_help, help, short_version, version, world_help, world_version, topic, shown_topic}
+use Rattle.command_words.proofs.Rows.{nothing, short_help, help, short_version, version, world_help, world_version, load_help, load_version, topic, shown_topic}
 use Rattle.command_words.proofs.laws.forms_of_help_are_no_command.Goals as goal
 
 pub returns : goal.returns
@@ -10,6 +10,8 @@ returns c = record {
   version = version;
   world_help = world_help;
   world_version = world_version;
+  load_help = load_help;
+  load_version = load_version;
   topic = topic;
   shown_topic = shown_topic;
 }

@@ -1,6 +1,6 @@
 use Rattle.std.proofs.Common.{◌∙◌, sym, ap, Err}
 use Rattle.std.specs.Prelude.{is_some}
-use Rattle.smart_top.specs.Apps.{core_courses}
+use Rattle.script_play.specs.Apps.{core_courses}
 use Rattle.smart_top.proofs.Feeding.{line-played, line-refused, line-halted}
 use Rattle.smart_top.proofs.reader.end_line.Goals as goal
 use Rattle.world_laws.proofs.Keeps.{none_is}

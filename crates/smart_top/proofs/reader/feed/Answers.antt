@@ -1,5 +1,5 @@
 use Rattle.std.proofs.Common.{◌++◌, take, drop, ◌∷◌, [], suc, get_or}
-use Rattle.smart_top.specs.Apps.{core_courses}
+use Rattle.script_play.specs.Apps.{core_courses}
 use Rattle.smart_top.proofs.Feeding.{halted-later, piece-split}
 use Rattle.smart_top.proofs.reader.feed.Goals as goal
 

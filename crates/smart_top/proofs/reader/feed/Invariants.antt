@@ -1,5 +1,5 @@
 use Rattle.std.proofs.Common.{◌≡◌, ◌≤◌, ◌++◌, List, ℕ, Option, None, take}
-use Rattle.smart_top.specs.Apps.{core_courses}
+use Rattle.script_play.specs.Apps.{core_courses}
 use Rattle.smart_top.specs.Feeds.{HasTaken}
 use Rattle.smart_top.proofs.reader.feed.Given as goal
 

@@ -8,7 +8,7 @@ returns-in-Ok-false-clause-ended g c =
     let none = c.in-Ok-false.ensures.none c.in-Ok-false.field-0-test in
     let bytes = c.loop.invariant.taken.0 in
     let goes = none.3 bytes (g.I.Source.left c.args.input.now) (g.O.Sink.written c.args.output.now) c.loop.invariant.taken.1 in
-    c.finish.ensures.ended bytes (g.I.Source.left c.args.input.now) (g.I.Source.left c.take_piece.new.input) (g.O.Sink.written c.args.output.now) (g.O.Sink.wants c.args.output.now)
+    c.finish-status.ensures.ended bytes (g.I.Source.left c.args.input.now) (g.I.Source.left c.take_piece.new.input) (g.O.Sink.written c.args.output.now) (g.O.Sink.wants c.args.output.now)
     (input_at_end _ _ bytes goes.consumed none.0) none.0 goes.taken (omega (arith, c.loop.invariant.wants, c.in-Ok-false.ensures.later.2))
 
 pub returns-in-Err-clause-ended : goal.returns-in-Err-clause-ended

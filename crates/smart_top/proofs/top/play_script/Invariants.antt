@@ -1,5 +1,5 @@
 use Rattle.std.proofs.Common.{◌≡◌, ◌≤◌, List, length, ℕ, None}
-use Rattle.smart_top.specs.Apps.{core_courses}
+use Rattle.script_play.specs.Apps.{core_courses}
 use Rattle.smart_top.specs.Feeds.{GoesOn}
 use Rattle.smart_top.proofs.top.play_script.Given as goal
 

@@ -16,9 +16,9 @@ loop-id-preserved g c =
     drop-cons items i c.id-item.result left
     ∙ (ap (λ next. get_or items i c.id-item.result ∷ drop next items) one_more ∙ ap (λ id. id ∷ drop (i + 1) items) (sym c.id-item.is)) in
     rw (c.in_ok-push.ensures.items, c.in_ok-first_host.ensures)
-    (append_assoc c.loop-id.hosts.items _ _ ∙ (ap (λ ids. c.loop-id.hosts.items ++ hosts_from m view ids) (sym e) ∙ c.loop-id.invariant))
+    (append_assoc c.loop-id.hosts.items _ _ ∙ (ap (λ ids. c.loop-id.hosts.items ++ hosts_from m view c.args.period ids) (sym e) ∙ c.loop-id.invariant))
 
 pub returns : goal.returns
 returns g c =
-    let none = at_drop_all (hosts_from g.S.Service.meaning c.args.view.now) c.members-id-items.result.now c.loop-id.id-index c.loop-id-test.false in
+    let none = at_drop_all (hosts_from g.S.Service.meaning c.args.view.now c.args.period) c.members-id-items.result.now c.loop-id.id-index c.loop-id-test.false in
     sym (append-nil c.loop-id.hosts.items) ∙ (ap (λ rest. c.loop-id.hosts.items ++ rest) (sym none) ∙ c.loop-id.invariant)

@@ -4,4 +4,4 @@ use Rattle.world_state.proofs.state.first_hosts.Given as goal
 
 -- the hosts so far and those of the members left are all
 abbrev pub invariant-loop-id : goal.invariant-loop-id
-invariant-loop-id g l = l.hosts.items ++ hosts_from g.S.Service.meaning l.view (drop l.id-index l.id-items) ≡ hosts_from g.S.Service.meaning l.view l.view.members
+invariant-loop-id g l = l.hosts.items ++ hosts_from g.S.Service.meaning l.view l.period (drop l.id-index l.id-items) ≡ hosts_from g.S.Service.meaning l.view l.period l.view.members

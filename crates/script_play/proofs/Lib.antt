@@ -1,0 +1,4 @@
+pub mod ReadingLaws
+pub mod LongLines
+pub mod ReadingCounts
+pub mod Played

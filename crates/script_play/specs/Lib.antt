@@ -1,0 +1,4 @@
+pub mod Apps
+pub mod Readings
+pub mod Statuses
+pub mod Totals

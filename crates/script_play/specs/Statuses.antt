@@ -1,0 +1,15 @@
+-- The exit status of a program, by the status of its run.
+use Rattle.std.specs.Prelude.{ℕ}
+use Rattle.script_play.specs.declared.status.Status.{Status}
+use Rattle.script_play.specs.declared.status.Status.TheVariants as ends
+
+-- the exit status: 0 to 11
+abbrev pub code_of : Status → ℕ
+code_of ends.Ok = 0
+code_of ends.Words = 2
+code_of (ends.Script line kind) = 3
+code_of ends.ReadFault = 4
+code_of ends.WriteFault = 5
+code_of (ends.Premise line which) = 7
+code_of (ends.Limit line) = 8
+code_of ends.NoMemory = 11
