@@ -1,12 +1,12 @@
 #!/bin/sh
 # What an ask costs. Plays a script of N asks by so many clients with a flow after each has asked, and then one of 2N: the
 # seconds of a run and of an ask, the peak memory of a run, and the bytes of memory that an ask adds.
-# usage: bench/asks.sh [N [CLIENTS [PROGRAM [EVERY [CRASH]]]]]
+# usage: bench/asks.sh [N [CLIENTS [PROGRAM [EVERY [CRASH [PERIOD]]]]]]
 # Without N it is 2000, without CLIENTS 8, and without PROGRAM the proved program that ./prove makes. With EVERY the leader is
 # replaced at every ask whose number it divides: the others ask for the next regency as time passes. With CRASH all members
-# crash after every ask whose number it divides, and restart from what their devices hold. With 1000 clients most
-# batches have 64 requests. Of three runs the fastest counts, and
-# the least peak. A line of ratios follows, of the run of 2N to that of N: near 2 where the work grows with the asks alone.
+# crash after every ask whose number it divides, and restart from what their devices hold. With PERIOD each member takes one
+# checkpoint in each period of so many places; without it in each 1024. With 1000 clients most batches have 64 requests. Of
+# three runs the fastest counts, and the least peak. A line of ratios follows, of the run of 2N to that of N: near 2 where the work grows with the asks alone.
 # The status is 1 where the seconds' ratio is 2.3 or more. Memory is measured where there is a GNU time.
 top=$(CDPATH= cd -- "$(dirname -- "$0")/.." && pwd) || exit 1
 n=${1:-2000}
@@ -14,10 +14,11 @@ clients=${2:-8}
 program=${3:-$top/out/smart}
 every=${4:-4294967296}
 crash=${5:-4294967296}
-for number in "$n" "$clients" "$every" "$crash"; do
+period=${6:-1024}
+for number in "$n" "$clients" "$every" "$crash" "$period"; do
     case $number in
     '' | 0* | *[!0-9]*)
-        echo "usage: bench/asks.sh [N [CLIENTS [PROGRAM [EVERY [CRASH]]]]]" >&2
+        echo "usage: bench/asks.sh [N [CLIENTS [PROGRAM [EVERY [CRASH [PERIOD]]]]]]" >&2
         exit 2
         ;;
     esac
@@ -38,10 +39,11 @@ trap 'rm -rf "$folder"' EXIT
 
 # A script of so many asks.
 script() {
-    awk -v asks="$1" -v clients="$clients" -v every="$every" -v crash="$crash" 'BEGIN {
+    awk -v asks="$1" -v clients="$clients" -v every="$every" -v crash="$crash" -v period="$period" 'BEGIN {
         leader = 1
         print "group 4 1"
         print "app count"
+        if (period != 1024) print "period", period
         for (i = 1; i <= asks; i++) {
             if (i % every == 0) print "flow"
             print "ask", (i - 1) % clients + 1, i

@@ -15,14 +15,14 @@ case $n in
     exit 2
     ;;
 esac
-(cd "$top/crates/bench_bytes" && rt run -- decode 1) >/dev/null 2>&1 || exit 1
-program=$top/crates/bench_bytes/out/bench_bytes
+(cd "$top/crates/benches" && rt run -- "decode 1") >/dev/null 2>&1 || exit 1
+program=$top/crates/benches/out/benches
 
 # The seconds of the fastest of three runs, and the bytes of each.
 fastest() {
     for run in 1 2 3; do
         start=$(date +%s.%N)
-        said=$("$program" "$1" "$2") || exit 1
+        said=$("$program" "$1 $2") || exit 1
         awk -v start="$start" -v end="$(date +%s.%N)" -v said="$said" \
             'BEGIN { split(said, word, " "); printf "%.6f %s\n", end - start, word[3] }'
     done | sort -n | head -n 1
@@ -51,7 +51,7 @@ measure copy "$hundredth"
 # The processor seconds of the fastest of five runs.
 spent() {
     for run in 1 2 3 4 5; do
-        sh -c '"$@" >/dev/null && times' sh "$program" "$1" "$2" |
+        sh -c '"$@" >/dev/null && times' sh "$program" "$1 $2" |
             awk 'NR == 2 { split($0, part, /[ms ]+/); print 60 * (part[1] + part[3]) + part[2] + part[4] }'
     done | sort -n | head -n 1
 }

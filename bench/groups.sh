@@ -13,8 +13,8 @@ case $n in
     exit 2
     ;;
 esac
-(cd "$top/crates/bench_store" && rt run -- memory 1 1) >/dev/null 2>&1 || exit 1
-program=$top/crates/bench_store/out/bench_store
+(cd "$top/crates/benches" && rt run -- "memory 1 1") >/dev/null 2>&1 || exit 1
+program=$top/crates/benches/out/benches
 made=
 if [ -n "${2:-}" ]; then
     folder=$2
@@ -28,22 +28,22 @@ trap 'rm -f "$folder/groups-of-a-bench"; [ -z "$made" ] || rmdir "$made"' EXIT
 fastest() {
     for run in 1 2 3; do
         start=$(date +%s.%N)
-        said=$("$program" "$1" "$2" "$3") || exit 1
+        said=$("$program" "$1") || exit 1
         awk -v start="$start" -v end="$(date +%s.%N)" -v said="$said" \
-            'BEGIN { split(said, word, " "); printf "%.6f %s\n", end - start, word[3] }'
+            'BEGIN { count = split(said, word, " "); printf "%.6f %s\n", end - start, word[count] }'
     done | sort -n | head -n 1
 }
 
-# One place and one size of groups. Prints a line.
+# One place, N groups and one size of them, and the path behind these, if there is one. Prints a line.
 measure() {
-    once=$(fastest "$2" "$3" "$4")
-    twice=$(fastest "$2" $((2 * $3)) "$4")
+    once=$(fastest "$1 $2 $3${4:+ $4}")
+    twice=$(fastest "$1 $((2 * $2)) $3${4:+ $4}")
     if [ -z "$once" ] || [ -z "$twice" ]; then
-        echo "the program did not add $3 groups and then twice as many" >&2
+        echo "the program did not add $2 groups and then twice as many" >&2
         exit 1
     fi
     # Each byte of the log is written once, and each gate a second time.
-    awk -v what="$1" -v groups="$3" -v count="$4" -v once="$once" -v twice="$twice" 'BEGIN {
+    awk -v what="$1" -v groups="$2" -v count="$3" -v once="$once" -v twice="$twice" 'BEGIN {
         split(once, one, " ")
         split(twice, two, " ")
         printf "%-6s %6d groups of %2d: %.3f s, %d groups a second, %.2f bytes written for each, ratio %.2f\n",
@@ -52,6 +52,6 @@ measure() {
 }
 
 for count in 1 64; do
-    measure memory memory "${n:-20000}" "$count"
-    measure file "$folder/groups-of-a-bench" "${n:-500}" "$count"
+    measure memory "${n:-20000}" "$count"
+    measure file "${n:-500}" "$count" "$folder/groups-of-a-bench"
 done

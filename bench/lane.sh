@@ -13,14 +13,14 @@ case $n in
     exit 2
     ;;
 esac
-(cd "$top/crates/bench_lane" && rt run -- lane 1) >/dev/null 2>&1 || exit 1
-program=$top/crates/bench_lane/out/bench_lane
+(cd "$top/crates/benches" && rt run -- "lane 1") >/dev/null 2>&1 || exit 1
+program=$top/crates/benches/out/benches
 
 # The seconds of the fastest of three runs.
 fastest() {
     for run in 1 2 3; do
         start=$(date +%s.%N)
-        said=$("$program" "$1" "$2") || exit 1
+        said=$("$program" "$1 $2") || exit 1
         awk -v start="$start" -v end="$(date +%s.%N)" -v said="$said" -v count="$2" 'BEGIN {
             split(said, word, " ")
             if (word[3] != count) exit 1

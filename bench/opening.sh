@@ -1,7 +1,7 @@
 #!/bin/sh
 # How much memory the opening of a store takes, whatever the size of its log. A small proved program makes logs of 100-byte entries in
-# a file, in one group and in groups of 64. A second one opens a store over each, entry by entry, and keeps none. This script takes its
-# peak memory, less that over an empty log, and the seconds.
+# a file, in one group and in groups of 64, and then opens a store over each, entry by entry, and keeps none. This script takes the
+# peak memory of an opening, less that over an empty log, and the seconds.
 # usage: bench/opening.sh [MIB [FOLDER]]
 # Without MIB the logs have 64 MiB and then 128; without FOLDER the file is in a new folder below /tmp. The status is 1 where an opening
 # takes 4 MiB or more. There has to be a GNU time.
@@ -13,10 +13,8 @@ case $mib in
     exit 2
     ;;
 esac
-(cd "$top/crates/bench_store" && rt run -- memory 1 1) >/dev/null 2>&1 || exit 1
-(cd "$top/crates/bench_opening" && rt run -- /dev/null) >/dev/null 2>&1 || exit 1
-fills=$top/crates/bench_store/out/bench_store
-opens=$top/crates/bench_opening/out/bench_opening
+(cd "$top/crates/benches" && rt run -- "opening /dev/null") >/dev/null 2>&1 || exit 1
+program=$top/crates/benches/out/benches
 made=
 if [ -n "${2:-}" ]; then
     folder=$2
@@ -29,20 +27,20 @@ trap 'rm -f "$log" "$folder/memory-of-a-bench"; [ -z "$made" ] || rmdir "$made"'
 
 # The peak memory of an opening in KiB.
 peak() {
-    /usr/bin/time -f %M -o "$folder/memory-of-a-bench" "$opens" "$1" >/dev/null || exit 1
+    /usr/bin/time -f %M -o "$folder/memory-of-a-bench" "$program" "opening $1" >/dev/null || exit 1
     cat "$folder/memory-of-a-bench"
 }
 
 # A log of so many groups of so many entries. Prints a line, and answers whether the memory is below the limit.
 measure() {
-    "$fills" "$log" "$1" "$2" >/dev/null || exit 1
+    "$program" "file $1 $2 $log" >/dev/null || exit 1
     start=$(date +%s.%N)
-    said=$("$opens" "$log") || exit 1
+    said=$("$program" "opening $log") || exit 1
     end=$(date +%s.%N)
     awk -v groups="$1" -v count="$2" -v said="$said" -v peak="$(peak "$log")" -v none="$none" -v seconds="$(echo "$end $start" | awk '{ print $1 - $2 }')" 'BEGIN {
-        split(said, word, " ")
-        printf "%6d groups of %7d entries, %10d bytes: %.3f s, %d KiB of memory\n", groups, count, word[2], seconds, peak - none
-        exit word[1] != groups * count || peak - none >= 4096
+        words = split(said, word, " ")
+        printf "%6d groups of %7d entries, %10d bytes: %.3f s, %d KiB of memory\n", groups, count, word[words], seconds, peak - none
+        exit word[words - 1] != groups * count || peak - none >= 4096
     }'
 }
 

@@ -176,8 +176,27 @@ class Reader:
             self.optional(self.batch)
         elif kind == 6 and any_kind:
             self.signed(False, self.sync)
+        elif kind == 7 and any_kind:
+            self.place()
+            self.batch()
+            self.signed_list(self.slotted(3, 3))
         elif kind == 9 and any_kind:
             self.signed(False, self.mark)
+        elif kind == 10 and any_kind:
+            self.number(2, 1)
+            self.number(8, 0, LAST_PLACE)
+            self.number(8, 0, LAST_PLACE)
+        elif kind == 11 and any_kind:
+            self.number(2, 1)
+            self.number(8, 0, LAST_PLACE)
+            self.number(4)
+            for _ in range(self.number(2, 0, 64)):
+                self.signed(False, self.mark)
+        elif kind == 12 and any_kind:
+            self.place()
+            self.number(4)
+            self.number(4)
+            self.text(4, 0, 65536)
         else:
             raise Fault(at)
 
@@ -415,8 +434,13 @@ def messages():
     table.give("little", "05 marked 00")
     table.give("sync", sync_words(table, ["decided-locked"]))
     table.give("marking", "09 mark")
+    table.part("A decided batch. Member 4 at place 0 asks for state. Member 2 offers a snapshot of 2 bytes and a mark. A part of it.")
+    table.give("decision", "07 place batch 0001 accept")
+    table.give("stateask", "0a 0004 0000000000000000 0000000000000000")
+    table.give("offer", "0b 0002 place 00000002 0001 mark")
+    table.give("part", "0c place 00000000 00000001 00000002 6869")
     table.part("Each message is fine, whatever is in its report.")
-    for name in ("ask", "propose", "vote", "reply", "stop", "marking"):
+    for name in ("ask", "propose", "vote", "reply", "stop", "marking", "decision", "stateask", "offer", "part"):
         table.spelled(name, FINE)
     table.spelled("03 write", FINE)
     for name in shapes:
@@ -457,11 +481,31 @@ def messages():
     table.spelled("head 0040 64*request", FINE)
     table.spelled("head 0041 65*request", "61")
     table.spelled("head 0000", "61")
+    table.part("Member 2 at place 7 asks for state: whole, without its last byte, with one more, and another kind alone.")
+    table.spelled("0a 0002 0000000000000007 0000000000000000", FINE)
+    table.spelled("0a 0002 0000000000000007 00000000000000", "11")
+    table.spelled("0a 0002 0000000000000007 0000000000000000 00", "19")
+    table.spelled("00", "0")
+    table.part("A member at place 0 asks for state. Places of 2^63, and member 0.")
+    table.spelled("0a 0004 0000000000000000 8000000000000000", "11")
+    table.spelled("0a 0004 8000000000000000 0000000000000000", "3")
+    table.spelled("0a 0000 0000000000000000 0000000000000000", "1")
+    table.part("An offer has 64 marks at most, and a part 65,536 bytes.")
+    table.spelled("0b 0002 place 00000002 0040 64*mark", FINE)
+    table.spelled("0b 0002 place 00000002 0041 65*mark", "15")
+    table.spelled("0b 0002 0000000000000000 00000000 0000", FINE)
+    table.spelled("0c place 00000000 00000002 00010000 65536*68", FINE)
+    table.spelled("0c place 00000000 00000002 00010001 65537*68", "17")
+    table.spelled("0c place 00000000 00000000 00000000", FINE)
+    table.part("A decided batch without ACCEPTs, with a WRITE in their stead, and with no request.")
+    table.spelled("07 place batch 0000", FINE)
+    table.spelled("07 place batch 0001 write", str(1 + 8 + 2 + 36 + 2 + 7))
+    table.spelled("07 place 0000 0001 accept", "9")
     table.part("Each front of a message.")
-    for name in ("ask", "propose", "vote", "reply", "stop", "full", "little", "sync", "marking"):
+    for name in ("ask", "propose", "vote", "reply", "stop", "full", "little", "sync", "marking", "decision", "stateask", "offer", "part"):
         table.fronts(name)
     table.part("Each value of each byte of a message. Of a byte that may have any value, the least and the greatest.")
-    for name in ("ask", "propose", "vote", "reply", "stop", "full", "little", "sync", "marking"):
+    for name in ("ask", "propose", "vote", "reply", "stop", "full", "little", "sync", "marking", "decision", "stateask", "offer", "part"):
         table.changes(name)
     return table
 
@@ -880,6 +924,84 @@ unequal four d1 w1
 """
 
 
+def plans():
+    table = Certified("plans", "What a member that lags takes over. The parts of a row are the view, the member's place, the offers, "
+                      "and the marks that the member kept. Wanted is place/seeder/size/marks/digest, of the digest its first byte, or "
+                      "the most equal marks and how many a plan needs, with a colon between them. A mark is named by its member, "
+                      "place and digest, and a t if its tag is not its member's.")
+    table.part("Three digests, the view of members 1 to 4, and that of 1 to 7, of whom two may be faulty.")
+    for digest in "cde":
+        table.give(digest, f"32*0{digest}")
+    table.give("four", view_words(0, 1, 1, 4, 1))
+    table.give("seven", view_words(0, 1, 1, 7, 2))
+
+    def mark(word):
+        member, rest = int(word.partition(".")[0]), word.partition(".")[2]
+        place, digest = int(rest.rstrip("cdet")), rest.rstrip("t")[-1]
+        statement = f"07 {hexed(place, 8)} {digest}"
+        return table.made(f"m{word}", sealed(table, member, statement, member + 1 if rest.endswith("t") else member))
+
+    def marks(text):
+        words = [word for word in text.split(",") if word]
+        return " ".join([hexed(len(words), 2)] + [mark(word) for word in words])
+
+    def offer(word):
+        """`2@4/8:3.4d,..`: member 2 offers a snapshot of place 4 with 8 bytes, and these marks."""
+        head, _, text = word.partition(":")
+        member, _, rest = head.partition("@")
+        place, _, size = rest.partition("/")
+        return f"{hexed(int(member), 2)} {hexed(int(place), 8)} {hexed(int(size), 4)} {marks(text)}"
+
+    for line in PLAN_ROWS.strip().splitlines():
+        if line.startswith("#"):
+            table.part(line.lstrip("# "))
+            continue
+        wanted, view, place, kept, *offers = line.split()
+        parts = [view, hexed(int(place), 8)] + [offer(word) for word in offers] + [marks(kept.strip("-"))]
+        table.row(wanted, ", ".join(parts))
+    return table
+
+
+PLAN_ROWS = """
+# One mark of two, the second one, and one of another digest.
+1:2 four 0 - 2@4/8:2.4d
+4/2/8/2/0d four 0 3.4d 2@4/8:2.4d
+1:2 four 0 3.4e 2@4/8:2.4d
+4/2/8/2/0d four 0 - 2@4/8:2.4d 3@0/0:3.4d
+4/2/8/2/0d four 0 2.4d,3.4d 2@4/8:
+# Nobody offers, or nothing past the place.
+0:2 four 0 -
+0:2 four 0 2.4d,3.4d
+0:2 four 4 2.4d,3.4d 2@4/8:
+0:2 four 5 2.4d,3.4d 2@4/8:
+4/2/8/2/0d four 3 2.4d,3.4d 2@4/8:
+# One member's marks count once for each digest.
+1:2 four 0 2.4d 2@4/8:2.4d
+1:2 four 0 2.4d,2.4e 2@4/8:2.4d
+# More marks than are needed, of which the first by member count. Of seven members three are needed.
+4/2/8/2/0d four 0 1.4d,2.4d,3.4d,4.4d 2@4/8:
+2:3 seven 0 1.4d,2.4d 2@4/8:
+4/2/8/3/0d seven 0 7.4d,1.4d,5.4d,2.4d 2@4/8:
+# Strangers, and marks whose tags do not verify.
+1:2 four 0 9.4d,3.4d 2@4/8:
+1:2 four 0 3.4d 2@4/8:2.4dt
+4/2/8/2/0d four 0 3.4d 2@4/8:2.4dt,2.4d
+# The greatest place that is offered and marked enough.
+8/2/9/2/0e four 0 1.4d,2.4d,1.8e,2.8e 3@4/8: 2@8/9:
+4/3/8/2/0d four 0 1.4d,2.4d,1.8e 3@4/8: 2@8/9:
+4/3/8/2/0d four 0 1.4d,2.4d,1.12e,2.12e 3@4/8:
+8/2/9/2/0e four 4 1.4d,2.4d,1.8e,2.8e 3@4/8: 2@8/9:
+1:2 four 4 1.4d,2.4d,1.8e 3@4/8: 2@8/9:
+# The lower of two digests there.
+4/2/8/2/0c four 0 1.4d,2.4d,3.4c,4.4c 2@4/8:
+4/2/8/2/0c four 0 3.4c,4.4c,1.4d,2.4d 2@4/8:
+# The lowest member that offers the place, with its own size; a stranger may be it.
+4/2/8/2/0d four 0 1.4d,2.4d 3@4/9: 2@4/8: 4@4/7:
+4/1/0/2/0d four 0 1.4d,2.4d 3@4/9: 2@4/8: 1@4/0:
+4/9/5/2/0d four 0 1.4d,2.4d 9@4/5:
+"""
+
+
 class Reports(Certified):
     """A table whose rows are reports of members. A report is a tuple of its last place, evidence and lock."""
 
@@ -1081,7 +1203,7 @@ CHOICE_ROWS = """
 
 def main():
     stale = []
-    for make in (messages, entries, views, admission, votes, collects, choices):
+    for make in (messages, entries, views, admission, votes, collects, plans, choices):
         table = make()
         path, text = f"data/{table.name}.rows", table.text()
         if sys.argv[1:] == ["check"]:

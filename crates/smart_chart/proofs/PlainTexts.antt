@@ -88,6 +88,7 @@ figure figures.Synced = refl
 figure figures.Dropped = refl
 figure figures.Crashed = refl
 figure figures.Restarted = refl
+figure figures.Installed = refl
 figure figures.Accepted = refl
 figure figures.Other = refl
 

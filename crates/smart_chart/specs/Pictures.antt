@@ -21,6 +21,7 @@ figure_name figures.Synced = codes "synced"
 figure_name figures.Dropped = codes "dropped"
 figure_name figures.Crashed = codes "crashed"
 figure_name figures.Restarted = codes "restarted"
+figure_name figures.Installed = codes "installed"
 figure_name figures.Accepted = codes "accepted"
 figure_name figures.Other = codes "other"
 

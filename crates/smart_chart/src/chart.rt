@@ -103,14 +103,18 @@ fn parties_of(alloc: Global, members: u64, lines: &[String]) -> Result<Vec<Party
     Ok(parties)
 }
 
+fn push_name(out: &mut String, party: Party) -> Result<(), AllocError> {
+    match party {
+        Party::Member(id) => write!(out, "n{id}"),
+        Party::Client(id) => write!(out, "c{id}"),
+        Party::Script => out.push_str("x"),
+    }
+}
+
 /// The name of a party.
 fn name_of(alloc: Global, party: Party) -> Result<String, AllocError> {
     let mut name = String::new(alloc);
-    match party {
-        Party::Member(id) => write!(&mut name, "n{id}")?,
-        Party::Client(id) => write!(&mut name, "c{id}")?,
-        Party::Script => name.push_str("x")?,
-    }
+    push_name(&mut name, party)?;
     Ok(name)
 }
 

@@ -3,18 +3,18 @@
 use crate::picture::{Shape, Side};
 use crate::scene::{Happening, Message};
 use std::alloc::{AllocError, Global};
+use std::fmt::Write;
 
 /// A field behind its name. One that is empty is left out.
 fn push_field(text: &mut String, name: &str, value: &str) -> Result<(), AllocError> {
     if name == "-" || value.is_empty() {
         return Ok(());
     }
-    if name != "=" {
-        text.push_str(" ")?;
-        text.push_str(name)?;
+    if name == "=" {
+        write!(text, " {value}")
+    } else {
+        write!(text, " {name} {value}")
     }
-    text.push_str(" ")?;
-    text.push_str(value)
 }
 
 fn push_fields(text: &mut String, names: &str, values: &str) -> Result<(), AllocError> {
@@ -29,21 +29,19 @@ fn push_fields(text: &mut String, names: &str, values: &str) -> Result<(), Alloc
 
 /// The kind of a message, its number and its fields.
 pub fn message_text(alloc: Global, message: Message<'_>) -> Result<String, AllocError> {
-    let mut text = String::from_str(alloc, message.kind.name())?;
-    text.push_str(" ")?;
-    text.push_str(message.number)?;
+    let (kind, number) = (message.kind.name(), message.number);
+    let mut text = format!(in alloc; "{kind} {number}")?;
     push_fields(&mut text, message.kind.field_names(), message.fields)?;
     Ok(text)
 }
 
 /// The word of what happens, and those behind it.
 pub fn happening_text(alloc: Global, happening: Happening<'_>) -> Result<String, AllocError> {
-    let mut text = String::from_str(alloc, happening.word)?;
-    if !happening.rest.is_empty() {
-        text.push_str(" ")?;
-        text.push_str(happening.rest)?;
+    let (word, rest) = (happening.word, happening.rest);
+    if rest.is_empty() {
+        return String::from_str(alloc, word);
     }
-    Ok(text)
+    format!(in alloc; "{word} {rest}")
 }
 
 /// A text beside a point, on the side towards the middle of the picture.

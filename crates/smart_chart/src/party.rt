@@ -21,16 +21,20 @@ pub struct Column {
 /// The most columns that a picture has room for.
 const COLUMNS: usize = 36;
 
+/// A number in decimal digits.
+pub fn number_in(digits: &str) -> Option<u64> {
+    digits.parse::<u64>().ok()
+}
+
 /// The party of a word: `n1` is member 1, `c1` client 1, and `x` the script.
 pub fn party_of(word: &str) -> Option<Party> {
     if word == "x" {
         return Some(Party::Script);
     }
-    if let Some(digits) = word.strip_prefix('n') {
-        return Some(Party::Member(digits.parse::<u64>().ok()?));
+    match word.strip_prefix('n') {
+        Some(digits) => Some(Party::Member(number_in(digits)?)),
+        None => Some(Party::Client(number_in(word.strip_prefix('c')?)?)),
     }
-    let digits = word.strip_prefix('c')?;
-    Some(Party::Client(digits.parse::<u64>().ok()?))
 }
 
 /// Adds a party, if it is not there and there is room.
@@ -43,10 +47,10 @@ pub fn add_party(parties: &mut Vec<Party>, party: Party) -> Result<(), AllocErro
 
 /// How far columns stand from each other.
 fn distance_of(count: usize) -> u64 {
-    match count.checked_sub(1) {
-        None | Some(0) => 0,
-        Some(gaps) => (830 / gaps as u64).min(210),
+    if count <= 1 {
+        return 0;
     }
+    (830 / (count - 1) as u64).min(210)
 }
 
 /// The columns of parties, from left to right.

@@ -25,6 +25,7 @@ pub const STYLE: &str =
 <path id='dropped' stroke='#b63' stroke-width='2' d='M-4-4L4 4M-4 4L4-4'/>
 <path id='crashed' stroke='#d11' stroke-width='4' d='M-7-7L7 7M-7 7L7-7'/>
 <path id='restarted' fill='#17c' d='M-7 6h14L0-7z'/>
+<path id='installed' fill='#17c' d='M-7-6h14L0 7z'/>
 <path id='accepted' fill='#e90' stroke='#850' d='M0-8L2-3L8-2L4 2L5 8L0 5L-5 8L-4 2L-8-2L-2-3z'/>
 <circle id='other' fill='#999' r='4'/>
 </defs>
@@ -44,6 +45,7 @@ pub enum Figure {
     Dropped,
     Crashed,
     Restarted,
+    Installed,
     Accepted,
     Other,
 }
@@ -98,6 +100,7 @@ fn figure_name(figure: Figure) -> &'static str
         Figure::Dropped => "dropped",
         Figure::Crashed => "crashed",
         Figure::Restarted => "restarted",
+        Figure::Installed => "installed",
         Figure::Accepted => "accepted",
         Figure::Other => "other",
     }

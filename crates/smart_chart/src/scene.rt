@@ -1,6 +1,6 @@
 //! What a line of a transcript tells, as far as it is drawn.
 
-use crate::party::{Party, party_of};
+use crate::party::{Party, number_in, party_of};
 use crate::picture::Figure;
 
 /// A kind of message.
@@ -15,6 +15,10 @@ pub enum Kind {
     StopData,
     Sync,
     Mark,
+    Decision,
+    StateAsk,
+    Offer,
+    Part,
     Raw,
 }
 
@@ -53,31 +57,45 @@ pub enum Scene<'a> {
     Nothing,
 }
 
+/// The words of a transcript for the kinds of message.
+const KINDS: [(&str, Kind); 14] = [
+    ("ask", Kind::Ask),
+    ("propose", Kind::Propose),
+    ("write", Kind::Write),
+    ("accept", Kind::Accept),
+    ("reply", Kind::Reply),
+    ("stop", Kind::Stop),
+    ("stopdata", Kind::StopData),
+    ("sync", Kind::Sync),
+    ("mark", Kind::Mark),
+    ("decision", Kind::Decision),
+    ("stateask", Kind::StateAsk),
+    ("offer", Kind::Offer),
+    ("part", Kind::Part),
+    ("raw", Kind::Raw),
+];
+
+/// The words of a transcript for what happens, and their figures.
+const FIGURES: [(&str, Figure); 9] = [
+    ("decided", Figure::Decided),
+    ("delivered", Figure::Delivered),
+    ("promised", Figure::Promised),
+    ("synced", Figure::Synced),
+    ("dropped", Figure::Dropped),
+    ("crashed", Figure::Crashed),
+    ("restarted", Figure::Restarted),
+    ("installed", Figure::Installed),
+    ("accepted", Figure::Accepted),
+];
+
 impl Kind {
     fn of(word: &str) -> Option<Kind> {
-        if word == "ask" {
-            Some(Kind::Ask)
-        } else if word == "propose" {
-            Some(Kind::Propose)
-        } else if word == "write" {
-            Some(Kind::Write)
-        } else if word == "accept" {
-            Some(Kind::Accept)
-        } else if word == "reply" {
-            Some(Kind::Reply)
-        } else if word == "stop" {
-            Some(Kind::Stop)
-        } else if word == "stopdata" {
-            Some(Kind::StopData)
-        } else if word == "sync" {
-            Some(Kind::Sync)
-        } else if word == "mark" {
-            Some(Kind::Mark)
-        } else if word == "raw" {
-            Some(Kind::Raw)
-        } else {
-            None
+        for (name, kind) in KINDS {
+            if name == word {
+                return Some(kind);
+            }
         }
+        None
     }
 
     pub fn name(self) -> &'static str {
@@ -91,6 +109,10 @@ impl Kind {
             Kind::StopData => "STOPDATA",
             Kind::Sync => "SYNC",
             Kind::Mark => "MARK",
+            Kind::Decision => "DECISION",
+            Kind::StateAsk => "STATEASK",
+            Kind::Offer => "STATEOFFER",
+            Kind::Part => "STATEPART",
             Kind::Raw => "RAW",
         }
     }
@@ -107,6 +129,10 @@ impl Kind {
             Kind::StopData => "- regency last lock",
             Kind::Sync => "- regency base =",
             Kind::Mark => "place",
+            Kind::Decision => "place",
+            Kind::StateAsk => "place fetch",
+            Kind::Offer => "place marks",
+            Kind::Part => "place part of",
             Kind::Raw => "",
         }
     }
@@ -141,7 +167,12 @@ impl Message<'_> {
                 Some(regency) => leader_of(members, regency),
                 None => Audience::Nobody,
             },
-            Kind::Raw => Audience::Nobody,
+            // An ask for parts is for one member, which its words do not name.
+            Kind::StateAsk => match number_at(self.fields, 1) {
+                Some(0) => Audience::View,
+                _ => Audience::Nobody,
+            },
+            Kind::Decision | Kind::Offer | Kind::Part | Kind::Raw => Audience::Nobody,
         }
     }
 }
@@ -153,29 +184,16 @@ pub fn split_word(text: &str) -> (&str, &str) {
 
 /// The word at an index, as a number.
 pub fn number_at(words: &str, index: usize) -> Option<u64> {
-    words.split(' ').nth(index)?.parse::<u64>().ok()
+    number_in(words.split(' ').nth(index)?)
 }
 
 fn figure_of(word: &str) -> Figure {
-    if word == "decided" {
-        Figure::Decided
-    } else if word == "delivered" {
-        Figure::Delivered
-    } else if word == "promised" {
-        Figure::Promised
-    } else if word == "synced" {
-        Figure::Synced
-    } else if word == "dropped" {
-        Figure::Dropped
-    } else if word == "crashed" {
-        Figure::Crashed
-    } else if word == "restarted" {
-        Figure::Restarted
-    } else if word == "accepted" {
-        Figure::Accepted
-    } else {
-        Figure::Other
+    for (name, figure) in FIGURES {
+        if name == word {
+            return figure;
+        }
     }
+    Figure::Other
 }
 
 fn sent_of(text: &str) -> Option<Message<'_>> {

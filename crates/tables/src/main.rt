@@ -5,6 +5,7 @@ mod admission;
 mod change;
 mod fault;
 mod names;
+mod plans;
 mod proofs_of;
 mod spelling;
 mod table;

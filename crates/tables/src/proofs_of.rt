@@ -23,12 +23,12 @@ use vote_book::codec::decode_entry;
 use vote_book::entry::LogEntry;
 
 /// The keys of the secret `world`.
-fn ring(alloc: Global) -> Result<Ring, AllocError> {
+pub fn ring(alloc: Global) -> Result<Ring, AllocError> {
     Ok(Ring::from_secret(Bytes::from_slice(alloc, b"world")?))
 }
 
 /// The view of bytes.
-fn view_of(alloc: Global, bytes: &[u8]) -> Result<View, RowFault> {
+pub fn view_of(alloc: Global, bytes: &[u8]) -> Result<View, RowFault> {
     match read_view(alloc, &mut Cursor::new(bytes)) {
         Ok(view) => Ok(view),
         Err(error) => Err(fault_of(error)),

@@ -1,6 +1,7 @@
 //! The tables, and the call that each is about.
 use crate::admission::told_of_book;
 use crate::fault::RowFault;
+use crate::plans::told_of_plan;
 use crate::proofs_of::{told_of_choice, told_of_collect, told_of_votes};
 use crate::spelling::{told_of_entry, told_of_message, told_of_view};
 use std::alloc::Global;
@@ -20,18 +21,21 @@ pub enum Table {
     Votes,
     /// Reports in views.
     Collects,
+    /// What a member that lags takes over.
+    Plans,
     /// What reports leave to a regency.
     Choices,
 }
 
 /// All tables, in the order in which they are tried.
-pub const TABLES: [Table; 7] = [
+pub const TABLES: [Table; 8] = [
     Table::Messages,
     Table::Entries,
     Table::Views,
     Table::Admission,
     Table::Votes,
     Table::Collects,
+    Table::Plans,
     Table::Choices,
 ];
 
@@ -45,6 +49,7 @@ impl Table {
             Table::Admission => "admission",
             Table::Votes => "votes",
             Table::Collects => "collects",
+            Table::Plans => "plans",
             Table::Choices => "choices",
         }
     }
@@ -58,6 +63,7 @@ impl Table {
             Table::Admission => told_of_book(alloc, heads, bytes),
             Table::Votes => told_of_votes(alloc, heads, bytes),
             Table::Collects => told_of_collect(alloc, heads, bytes),
+            Table::Plans => told_of_plan(alloc, heads, bytes),
             Table::Choices => told_of_choice(alloc, bytes),
         }
     }

@@ -1,5 +1,5 @@
 //! Plays the scripts that lie in the folder where it runs, and says of each whether its transcript and its status are
-//! those of the files beside it.
+//! those of the files beside it. A case may have words of its own, such as those of a load.
 #![tactic(auto)]
 
 ghost use Rattle.std.specs.Prelude.{◌≡◌, ◌↔◌, IsNone};
@@ -45,6 +45,21 @@ fn part_or(rt: &HostRuntime, name: &str, part: &str, other: &[u8]) -> io::Result
     }
 }
 
+/// The words with which a case is run, each behind a space but the first: those of its file, or `world`.
+fn words_of(rt: &HostRuntime, name: &str) -> io::Result<Vec<String>> {
+    let alloc = rt.alloc();
+    let path = format!(in alloc; "{name}.words")?;
+    let text = match fs::read_to_string(rt, path.as_str()) {
+        Err(error) if error.kind() == io::ErrorKind::NotFound => String::from_str(alloc, "world")?,
+        read => read?,
+    };
+    let mut words = Vec::new(alloc);
+    for word in text.as_str().trim_end().split(' ') {
+        words.push(String::from_str(alloc, word)?)?;
+    }
+    Ok(words)
+}
+
 /// What a case is to write, and how it is to end.
 fn wanted_ending(rt: &HostRuntime, name: &str) -> io::Result<Ending> {
     Ok(Ending {
@@ -66,22 +81,13 @@ fn status_line(rt: &HostRuntime, code: u8, said: &[u8]) -> io::Result<Vec<u8>> {
     Ok(line)
 }
 
-/// Plays a script.
-fn play(rt: &HostRuntime, script: Vec<u8>) -> io::Result<Ending> {
+/// Runs words over a script.
+fn play(rt: &HostRuntime, words: &[String], script: Vec<u8>) -> io::Result<Ending> {
     let alloc = rt.alloc();
-    let mut words = Vec::new(alloc);
-    words.push(String::from_str(alloc, "world")?)?;
     let mut input = MemSource::new(script, Vec::new(alloc));
     let mut output = MemSink::new(Vec::new(alloc), Vec::new(alloc));
     let mut errors = MemSink::new(Vec::new(alloc), Vec::new(alloc));
-    let status = run(
-        rt,
-        alloc,
-        words.as_slice(),
-        &mut input,
-        &mut output,
-        &mut errors,
-    );
+    let status = run(rt, alloc, words, &mut input, &mut output, &mut errors);
     let status = status_line(rt, status.code(), errors.bytes.as_slice())?;
     Ok(Ending {
         written: output.bytes,
@@ -131,7 +137,8 @@ fn say(rt: &HostRuntime, name: &str, played: &Ending, wanted: &Ending) -> io::Re
 /// Plays a case and says how it ended. Answers whether it ended as its files tell.
 fn try_case(rt: &HostRuntime, name: &str) -> io::Result<bool> {
     let wanted = wanted_ending(rt, name)?;
-    let played = play(rt, script_of(rt, name)?)?;
+    let words = words_of(rt, name)?;
+    let played = play(rt, words.as_slice(), script_of(rt, name)?)?;
     say(rt, name, &played, &wanted)
 }
 
