@@ -163,7 +163,20 @@ fn seals_both(alloc: Global, ring: &Ring) -> bool {
     )
 }
 
-/// Tags are told to be their party's before its key is learnt and after it, and by a copy.
+/// Whether tags are told as before after a right tag of a party was checked, and after a wrong one.
+fn seals_as_checked(alloc: Global, ring: &mut Ring, who: &Party) -> bool {
+    let tag = match ring.sealer(*who).seal(alloc, b"text") {
+        Ok(tag) => tag,
+        Err(_) => return false,
+    };
+    let right = ring.check(alloc, *who, b"text", tag.as_slice()).is_ok();
+    let as_before = right && seals_both(alloc, ring);
+    let wrong = ring.check(alloc, *who, b"texT", tag.as_slice()).is_ok();
+    as_before && wrong && seals_both(alloc, ring)
+}
+
+/// Tags are told to be their party's before its key is learnt and after it, by a copy, and after tags
+/// were checked.
 #[test]
 fn tags_are_told_to_be_their_partys(rt: HostRuntime) {
     let alloc = rt.alloc();
@@ -176,4 +189,8 @@ fn tags_are_told_to_be_their_partys(rt: HostRuntime) {
         .expect(&rt, "there is memory");
     let copy = ring.duplicate(alloc).expect(&rt, "there is memory");
     assert!(rt; seals_both(alloc, &ring) && seals_both(alloc, &copy));
+    let member = Party::Member(MemberId::new(258));
+    assert!(rt; seals_as_checked(alloc, &mut ring, &member));
+    let client = Party::Client(ClientId::new(7));
+    assert!(rt; seals_as_checked(alloc, &mut ring, &client));
 }

@@ -20,7 +20,7 @@ use smart_view::size::collect_size;
 const LAST_PLACE: u64 = (1 << 63) - 1;
 
 /// The view that holds a place: the last that starts there or earlier.
-fn view_holding(views: &[View], place: Place) -> Option<&View>
+pub fn view_holding(views: &[View], place: Place) -> Option<&View>
     ensures { option_copied result ≡ view_holding views.now place }
 {
     let mut found = None;

@@ -39,6 +39,13 @@ impl FileDisk {
         }
     }
 
+    /// The number of failed calls.
+    pub fn faults(&self) -> u64
+        ensures { result ≡ self.now.faults }
+    {
+        self.faults
+    }
+
     /// Counts a fault.
     fn fault(&mut self) -> Fault
         ensures rose { Rose self.old.faults self.new.faults }

@@ -94,7 +94,7 @@ impl Tag {
 impl Duplicate for Tag {
     fn duplicate(&self, alloc: Global) -> Result<Tag, AllocError> {
         Ok(Tag {
-            bytes: self.bytes.duplicate(alloc)?,
+            bytes: Bytes::from_slice(alloc, self.bytes.as_slice())?,
         })
     }
 }
@@ -151,7 +151,7 @@ impl Payload {
 impl Duplicate for Payload {
     fn duplicate(&self, alloc: Global) -> Result<Payload, AllocError> {
         Ok(Payload {
-            bytes: self.bytes.duplicate(alloc)?,
+            bytes: Bytes::from_slice(alloc, self.bytes.as_slice())?,
         })
     }
 }

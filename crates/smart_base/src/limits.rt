@@ -40,10 +40,10 @@ pub const MESSAGES: usize = 1 << 24;
 /// The most bytes of a script's line.
 pub const LINE_BYTES: usize = 65_536;
 
-/// The number of places from one mark to the next, if a script names none.
+/// The number of places in which each member takes one checkpoint, if a script names none.
 pub const PERIOD: u32 = 1024;
 
-/// The greatest number of places from one mark to the next.
+/// The greatest number of places in which each member takes one checkpoint.
 pub const LAST_PERIOD: u32 = 1_048_576;
 
 /// The most marks of a member that a node keeps.

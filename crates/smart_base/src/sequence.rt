@@ -104,8 +104,9 @@ impl Sequence<u8> {
 }
 
 impl<T: Duplicate> Duplicate for Sequence<T> {
+    /// Room for the whole copy is made at once. Bytes are copied quicker as one piece, by `from_slice`.
     fn duplicate(&self, alloc: Global) -> Result<Sequence<T>, AllocError> {
-        let mut items = Vec::new(alloc);
+        let mut items = Vec::with_capacity(alloc, self.len())?;
         for item in self.as_slice() {
             items.push(item.duplicate(alloc)?)?;
         }

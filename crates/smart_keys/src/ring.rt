@@ -3,7 +3,9 @@ ghost use Rattle.std.specs.Prelude.{◌≡◌, IfOk, IfErr, IfSome};
 ghost use Rattle.smart_base.specs.Lists.{same_bytes};
 ghost use Rattle.smart_base.specs.declared.keys.SignRefused.TheVariants.{NoMemory};
 ghost use Rattle.smart_keys.specs.Keys.{hmac, party_bytes, key_of};
+ghost use Rattle.smart_keys.specs.Known.{is_client, is_kept};
 
+use crate::checked::Checked;
 use crate::hash::hmac;
 use crate::keyed::KeyedHash;
 use crate::known::KnownKeys;
@@ -15,6 +17,7 @@ use smart_base::name::MemberId;
 use smart_base::party::Party;
 use smart_base::sequence::Bytes;
 use std::alloc::{AllocError, Global};
+use std::collections::HashMap;
 use std::marker::Model;
 
 fn party_bytes(who: Party) -> [u8; 3]
@@ -92,11 +95,16 @@ impl Signer for Sealer {
     }
 }
 
+/// The tags that were checked, by the bytes of their parties: of each client the last.
+type CheckedTags = HashMap<[u8; 3], Checked>;
+
 /// What tells the tags of all parties: it holds the secret. Keys that it has learnt are kept, begun, so
-/// that a tag of such a party costs less.
+/// that a tag of such a party costs less. Tags that it has checked are kept, so that they are not made
+/// again.
 pub struct Ring {
     secret: Bytes,
     known: KnownKeys,
+    checked: CheckedTags,
 }
 
 /// Let go by one call, so that no function that lets one go carries the whole of it.
@@ -105,6 +113,7 @@ impl Drop for Ring {
         let Ring {
             secret: _,
             known: _,
+            checked: _,
         } = self;
     }
 }
@@ -114,22 +123,37 @@ impl Model for Ring {
 
     ghost Value = { List ℕ };
 
-    ghost use Rattle.smart_keys.specs.Known.{AreKeysOf};
+    ghost use Rattle.std.specs.Prelude.{nat_eq};
+    ghost use Rattle.std.specs.Cmp.Lexicographic.{pointwise};
+    ghost use Rattle.std.specs.HashMap.{get};
+    ghost use Rattle.smart_keys.specs.Known.{AreKeysOf, AreTagsOf};
 
     ghost view = { λ r. r.secret };
 
-    // The known keys are made from the secret.
-    ghost invariant = { λ r. AreKeysOf r.secret r.known };
+    // The known keys and the checked tags are made from the secret.
+    ghost invariant = { λ r. AreKeysOf r.secret r.known × AreTagsOf r.secret (get (pointwise nat_eq) r.checked) };
 }
 
-/// Whether a ring keeps the key of a party: those of members, and of the clients that there are.
-fn is_kept(who: &Party) -> bool {
+/// Whether a party is one of the clients that there are: those of a number from 1 to 1,024.
+fn is_client(who: &Party) -> bool
+    ensures { result ≡ is_client who.now }
+{
     match who {
-        Party::Member(_) => true,
+        Party::Member(_) => false,
         Party::Client(client) => {
             let number = client.get();
             1 <= number && number <= LAST_CLIENT
         }
+    }
+}
+
+/// Whether a ring keeps the key of a party: those of members, and of the clients that there are.
+fn is_kept(who: &Party) -> bool
+    ensures { result ≡ is_kept who.now }
+{
+    match who {
+        Party::Member(_) => true,
+        Party::Client(_) => is_client(who),
     }
 }
 
@@ -143,6 +167,7 @@ impl Ring {
         Ring {
             secret: Bytes::from_vec(bytes),
             known: KnownKeys::new(alloc),
+            checked: HashMap::new(alloc),
         }
     }
 
@@ -166,14 +191,62 @@ impl Ring {
         }
     }
 
-    /// The tag of the party of these bytes over a text. It takes no memory.
-    fn tag(&self, name: &[u8; 3], text: &[u8]) -> Digest32
+    /// The tag of the party of these bytes over a text, made from its key. It takes no memory.
+    fn made_tag(&self, name: &[u8; 3], text: &[u8]) -> Digest32
         ensures { result ≡ hmac (hmac self.now name.now) text.now }
     {
         match self.known(name) {
             None => hmac(hmac(self.secret.as_slice(), name).as_slice(), text),
             Some(hash) => hash.tag(text),
         }
+    }
+
+    /// The tag of the party of these bytes over a text, if it was checked and is kept.
+    fn kept_tag(&self, name: &[u8; 3], text: &[u8]) -> Option<Digest32>
+        ensures { IfSome result (λ tag. tag ≡ hmac (hmac self.now name.now) text.now) }
+    {
+        match self.checked.get(name) {
+            None => None,
+            Some(checked) => checked.tag_of(name, text),
+        }
+    }
+
+    /// The tag of the party of these bytes over a text. It takes no memory.
+    fn tag(&self, name: &[u8; 3], text: &[u8]) -> Digest32
+        ensures { result ≡ hmac (hmac self.now name.now) text.now }
+    {
+        match self.kept_tag(name, text) {
+            None => self.made_tag(name, text),
+            Some(tag) => tag,
+        }
+    }
+
+    /// Checks a tag of a client of a number from 1 to 1,024, and keeps it with its text if it is the one
+    /// that the client makes, in place of the client's last. No other party's is looked at, nor one over
+    /// a text whose tag is kept. What the ring tells stays. Error: want of memory.
+    pub fn check(
+        &mut self,
+        alloc: Global,
+        who: Party,
+        text: &[u8],
+        tag: &[u8],
+    ) -> Result<(), AllocError>
+        ensures { self.new ≡ self.old }
+    {
+        if !is_client(&who) {
+            return Ok(());
+        }
+        let name = party_bytes(who);
+        if self.kept_tag(&name, text).is_some() {
+            return Ok(());
+        }
+        let right = self.made_tag(&name, text);
+        if !same_bytes(right.as_slice(), tag) {
+            return Ok(());
+        }
+        let checked = Checked::new(name, Bytes::from_slice(alloc, text)?, right);
+        self.checked.insert(name, checked)?;
+        Ok(())
     }
 
     /// What makes the tags of a party.
@@ -221,11 +294,12 @@ impl Ring {
 }
 
 impl Duplicate for Ring {
-    /// A copy, which has learnt the same keys. Error: want of memory.
+    /// A copy, which has learnt the same keys and has checked no tag. Error: want of memory.
     fn duplicate(&self, alloc: Global) -> Result<Ring, AllocError> {
         Ok(Ring {
-            secret: self.secret.duplicate(alloc)?,
+            secret: Bytes::from_slice(alloc, self.secret.as_slice())?,
             known: self.known.duplicate(alloc)?,
+            checked: HashMap::new(alloc),
         })
     }
 }

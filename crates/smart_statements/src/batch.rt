@@ -19,6 +19,9 @@ use smart_base::sequence::Sequence;
 use std::alloc::{AllocError, Global};
 use std::marker::Model;
 
+/// The room with which a batch's bytes begin: more than a few small requests take.
+const ROOM: usize = 512;
+
 /// A batch: 1 to 64 signed requests of one place, in the order in which they are executed; at most
 /// 262,144 bytes.
 pub struct Batch {
@@ -104,7 +107,7 @@ impl Batch {
     pub fn text(&self, alloc: Global) -> Result<Vec<u8>, AllocError>
         ensures { IfOk result (λ text. text.items ≡ batch_text self.now) }
     {
-        let mut out = Vec::new(alloc);
+        let mut out = Vec::with_capacity(alloc, ROOM)?;
         self.put(&mut out)?;
         Ok(out)
     }

@@ -19,6 +19,9 @@ use smart_base::sequence::Bytes;
 use std::alloc::{AllocError, Global};
 use std::marker::Model;
 
+/// The room with which a statement's bytes begin: more than a vote's are.
+const ROOM: usize = 64;
+
 /// The kind of signers that are members.
 pub const MEMBER: u8 = 1;
 
@@ -174,7 +177,7 @@ impl<S: Statement> Signed<S> {
         ensures refused { IfErr result (λ why. (why ≡ NoMemory) ⊎ K.refuses key.old why) }
         ensures later { (text tag : List ℕ) → K.makes key.new text tag → K.makes key.old text tag }
     {
-        let mut kept = Vec::new(alloc);
+        let mut kept = Vec::with_capacity(alloc, ROOM)?;
         statement.put(&mut kept)?;
         let tag = key.sign(alloc, kept.as_slice())?;
         Ok(Signed {
@@ -190,6 +193,13 @@ impl<S: Statement> Signed<S> {
         ensures { result ≡ self.now.signer }
     {
         self.signer
+    }
+
+    /// The party that signed.
+    pub fn party(&self) -> Party
+        ensures { result ≡ party_of (Form.kind S.form) self.now.signer }
+    {
+        party_of(S::kind(), self.signer)
     }
 
     pub fn statement(&self) -> &S
@@ -288,7 +298,7 @@ impl<S: Statement> Duplicate for Signed<S> {
         Ok(Signed {
             signer: self.signer,
             statement: self.statement.duplicate(alloc)?,
-            kept: self.kept.duplicate(alloc)?,
+            kept: Bytes::from_slice(alloc, self.kept.as_slice())?,
             tag: self.tag.duplicate(alloc)?,
         })
     }

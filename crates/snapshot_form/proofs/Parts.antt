@@ -18,7 +18,7 @@ use Rattle.snapshot_form.specs.declared.reading.Parts.{Parts}
 
 -- ---- numbers
 
-place_law : Law (λ n. n < 2 ^ 63) (to_be_bytes w64) place_at
+pub place_law : Law (λ n. n < 2 ^ 63) (to_be_bytes w64) place_at
 place_law =
     refit (λ n. (n < 2 ^ 64) × (ltb n (2 ^ 63) ≡ true)) (λ n. n < 2 ^ 63) (to_be_bytes w64) place_at
     (ranged_law (λ n. n < 2 ^ 64) (to_be_bytes w64) (number_at w64) (λ n. ltb n (2 ^ 63)) u64_law)

@@ -1,6 +1,0 @@
-use Rattle.smart_base.specs.Lists.{Each}
-use Rattle.store_form.specs.Spelling.{IsEntry}
-use Rattle.bench_store.proofs.entries.Given as goal
-
-abbrev pub invariant-loop : goal.invariant-loop
-invariant-loop l = Each IsEntry l.entries.items
