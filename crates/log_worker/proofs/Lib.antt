@@ -1,0 +1,4 @@
+pub mod Booked
+pub mod Fails
+pub mod Grouped
+pub mod Stored
