@@ -1,0 +1,62 @@
+use Rattle.std.proofs.Common.{◌≡◌, ◌∙◌, [], ◌∷◌, ◌++◌, refl, sym, true≢false}
+use Rattle.group_links.specs.Link.{link_put, link_taken}
+use Rattle.trail.specs.Events.{event_text}
+use Rattle.trail.specs.Trails.{trail_text}
+use Rattle.trail.specs.declared.event.TrailEvent.TheVariants.{End}
+use Rattle.trail_rules.specs.Replays.{arrivals}
+use Rattle.node_seat.specs.Seats.{payloads}
+use Rattle.node_seat.proofs.Fronts.{first-same, wrote-all}
+use Rattle.node_seat.proofs.Seated.{came-own, left-own, text-all, text-first, later-still, rose-still}
+use Rattle.node_seat.proofs.seat.Seat.end.Goals as goal
+
+pub invariant_of-self-2 : goal.invariant_of-self-2
+invariant_of-self-2 g c =
+    let s = c.args.self.now in
+    let es = s.inner.trail.items in
+    let new = c.end.new.self.trail.items in
+    let e = End in
+    let longer : new ≡ es ++ e ∷ [] = c.in_ok-text.ensures.ok in
+    let is : c.as_slice.result.now ≡ event_text e = c.as_slice.ensures ∙ c.in_ok-text.ensures.text.0 in
+    let place = g.P.Place in
+    let before = g.O.Sink.written s.sink in
+    let now = g.O.Sink.written c.write_part.new.sink in
+    let came : link_taken s.from ≡ arrivals new = came-own es new e longer (link_taken s.from) (s.all_came c.requires) refl in
+    let left : link_put s.to ≡ payloads new = left-own es new e longer (link_put s.to) (s.all_left c.requires) refl in
+    let text = text-all es new e longer place.head place.entries place.begun before now c.as_slice.result.now is (s.all_text c.requires) c.in_ok-write_part.ensures.ok in record {
+      whole = λ _. c.in_ok-text.ensures.same ∙ s.whole c.requires;
+      came = first-same (arrivals new) (link_taken s.from) came;
+      all_came = λ _. came;
+      left = first-same (link_put s.to) (payloads new) (sym left);
+      all_left = λ _. left;
+      text = wrote-all place.begun now (trail_text place.head place.entries new) text;
+      all_text = λ _. text;
+      named = s.named;
+      later = later-still place.failures (g.O.Sink.faults s.sink) (g.O.Sink.faults c.write_part.new.sink) s.later c.write_part.ensures.later;
+      cause = rose-still place.failures (g.O.Sink.faults s.sink) (g.O.Sink.faults c.write_part.new.sink) s.failed c.write_part.new.failed s.cause s.later c.write_part.ensures.later c.write_part.ensures.failed;
+    }
+
+pub invariant_of-self-in-Break-branch-2 : goal.invariant_of-self-in-Break-branch-2
+invariant_of-self-in-Break-branch-2 g c =
+    let s = c.args.self.now in
+    let es = s.inner.trail.items in
+    let new = c.end.new.self.trail.items in
+    let e = End in
+    let longer : new ≡ es ++ e ∷ [] = c.in_ok-text.ensures.ok in
+    let is : c.as_slice.result.now ≡ event_text e = c.as_slice.ensures ∙ c.in_ok-text.ensures.text.0 in
+    let place = g.P.Place in
+    let before = g.O.Sink.written s.sink in
+    let now = g.O.Sink.written c.write_part.new.sink in
+    let came : link_taken s.from ≡ arrivals new = came-own es new e longer (link_taken s.from) (s.all_came c.requires) refl in
+    let left : link_put s.to ≡ payloads new = left-own es new e longer (link_put s.to) (s.all_left c.requires) refl in
+    let wrote = c.in_err-write_part.ensures.err in record {
+      whole = λ over. absurd (true≢false over);
+      came = first-same (arrivals new) (link_taken s.from) came;
+      all_came = λ over. absurd (true≢false over);
+      left = first-same (link_put s.to) (payloads new) (sym left);
+      all_left = λ over. absurd (true≢false over);
+      text = text-first es new e longer place.head place.entries place.begun before now c.as_slice.result.now is wrote.0 (s.all_text c.requires) wrote.1;
+      all_text = λ over. absurd (true≢false over);
+      named = s.named;
+      later = later-still place.failures (g.O.Sink.faults s.sink) (g.O.Sink.faults c.write_part.new.sink) s.later c.write_part.ensures.later;
+      cause = rose-still place.failures (g.O.Sink.faults s.sink) (g.O.Sink.faults c.write_part.new.sink) s.failed c.write_part.new.failed s.cause s.later c.write_part.ensures.later c.write_part.ensures.failed;
+    }

@@ -1,0 +1,67 @@
+use Rattle.std.proofs.Common.{◌≡◌, ◌∙◌, [], ◌∷◌, ◌++◌, ℕ, List, refl, sym, ap, true≢false}
+use Rattle.group_links.specs.Link.{link_put, link_taken}
+use Rattle.trail.specs.Events.{event_text, addressed_text}
+use Rattle.trail.specs.Trails.{trail_text}
+use Rattle.trail.specs.declared.event.Addressed.{Addressed}
+use Rattle.trail.specs.declared.event.TrailEvent.TheVariants.{Send}
+use Rattle.trail_rules.specs.Replays.{arrivals}
+use Rattle.node_seat.specs.Seats.{payloads}
+use Rattle.node_seat.proofs.Fronts.{first-same, wrote-all}
+use Rattle.node_seat.proofs.Seated.{came-own, left-by, left-first, text-all, text-first, later-still, rose-still}
+use Rattle.node_seat.proofs.seat.Seat.send.Goals as goal
+
+pub invariant_of-self-2 : goal.invariant_of-self-2
+invariant_of-self-2 g c =
+    let s = c.args.self.now in
+    let es = s.inner.trail.items in
+    let new = c.send.new.self.trail.items in
+    let told = rw c.in-Some.is at c.in_ok-sent.ensures.sent in
+    let a : Addressed = told.0 in
+    let e = Send a in
+    let longer : new ≡ es ++ e ∷ [] = told.1.1.1 in
+    let is : c.as_slice.result.now ≡ event_text e = c.as_slice.ensures ∙ told.1.0 in
+    let place = g.P.Place in
+    let before = g.O.Sink.written s.sink in
+    let now = g.O.Sink.written c.write_part.new.sink in
+    let came : link_taken s.from ≡ arrivals new = came-own es new e longer (link_taken s.from) (s.all_came c.requires.over) refl in
+    let put : link_put c.put_on.new.link ≡ link_put s.to ++ addressed_text a ∷ [] = c.put_on.ensures.put ∙ ap (λ (p : List ℕ). link_put s.to ++ p ∷ []) told.1.1.0 in
+    let left : link_put c.put_on.new.link ≡ payloads new = left-by es new e longer (link_put s.to) (link_put c.put_on.new.link) (s.all_left c.requires.over) put in
+    let text = text-all es new e longer place.head place.entries place.begun before now c.as_slice.result.now is (s.all_text c.requires.over) c.in_ok-write_part.ensures.ok in record {
+      whole = λ _. c.in_ok-sent.ensures.whole;
+      came = first-same (arrivals new) (link_taken s.from) came;
+      all_came = λ _. came;
+      left = first-same (link_put c.put_on.new.link) (payloads new) (sym left);
+      all_left = λ _. left;
+      text = wrote-all place.begun now (trail_text place.head place.entries new) text;
+      all_text = λ _. text;
+      named = (s.named.0, c.put_on.ensures.link ∙ s.named.1);
+      later = later-still place.failures (g.O.Sink.faults s.sink) (g.O.Sink.faults c.write_part.new.sink) s.later c.write_part.ensures.later;
+      cause = rose-still place.failures (g.O.Sink.faults s.sink) (g.O.Sink.faults c.write_part.new.sink) s.failed c.write_part.new.failed s.cause s.later c.write_part.ensures.later c.write_part.ensures.failed;
+    }
+
+pub invariant_of-self-in-Break-branch-3 : goal.invariant_of-self-in-Break-branch-3
+invariant_of-self-in-Break-branch-3 g c =
+    let s = c.args.self.now in
+    let es = s.inner.trail.items in
+    let new = c.send.new.self.trail.items in
+    let told = rw c.in-Some.is at c.in_ok-sent.ensures.sent in
+    let a : Addressed = told.0 in
+    let e = Send a in
+    let longer : new ≡ es ++ e ∷ [] = told.1.1.1 in
+    let is : c.as_slice.result.now ≡ event_text e = c.as_slice.ensures ∙ told.1.0 in
+    let place = g.P.Place in
+    let before = g.O.Sink.written s.sink in
+    let now = g.O.Sink.written c.write_part.new.sink in
+    let came : link_taken s.from ≡ arrivals new = came-own es new e longer (link_taken s.from) (s.all_came c.requires.over) refl in
+    let wrote = c.in_err-write_part.ensures.err in record {
+      whole = λ over. absurd (true≢false over);
+      came = first-same (arrivals new) (link_taken s.from) came;
+      all_came = λ over. absurd (true≢false over);
+      left = left-first es new e longer (link_put s.to) (s.all_left c.requires.over);
+      all_left = λ over. absurd (true≢false over);
+      text = text-first es new e longer place.head place.entries place.begun before now c.as_slice.result.now is wrote.0 (s.all_text c.requires.over) wrote.1;
+      all_text = λ over. absurd (true≢false over);
+      named = s.named;
+      later = later-still place.failures (g.O.Sink.faults s.sink) (g.O.Sink.faults c.write_part.new.sink) s.later c.write_part.ensures.later;
+      cause = rose-still place.failures (g.O.Sink.faults s.sink) (g.O.Sink.faults c.write_part.new.sink) s.failed c.write_part.new.failed s.cause s.later c.write_part.ensures.later c.write_part.ensures.failed;
+    }

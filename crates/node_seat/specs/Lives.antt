@@ -1,0 +1,65 @@
+-- What the seat of a running node keeps.
+use Rattle.std.proofs.Common.{◌≡◌, ℕ, ◌≤◌, List, [], ◌∷◌, map, drop, Option, Some, None, option_map}
+use Rattle.std.proofs.Props.{props}
+use Rattle.smart_statements.specs.declared.entry.NodeEvent.{NodeEvent}
+use Rattle.smart_statements.specs.declared.entry.NodeEvent.TheVariants.{Arrive, Tick, Deliver, Firm}
+use Rattle.smart_base.specs.Views.{View}
+use Rattle.smart_service.specs.Services.{Meaning}
+use Rattle.snapshot_form.specs.Snapshots.{restored}
+use Rattle.vote_book.specs.Entries.{entry_text}
+use Rattle.vote_book.specs.declared.entry.LogEntry.{LogEntry}
+use Rattle.node_rules.specs.Nodes.{Node}
+use Rattle.node_rules.specs.Steps.{outset, opened, first_leaving}
+use Rattle.node_rules.specs.declared.node.Held.{Held}
+use Rattle.trail.specs.declared.event.Addressed.{Addressed}
+use Rattle.trail.specs.declared.event.TrailEvent.{TrailEvent}
+use Rattle.trail.specs.declared.event.TrailEvent.TheVariants.{Happens, Send, Lost, Polls, End}
+use Rattle.node_rules.specs.Tails.{tail_of}
+use Rattle.store_laws.specs.declared.job.Tail.{Tail}
+use Rattle.trail_rules.specs.Replays.{Step, core_steps, replay, IsRelease, after, MayCome, Released}
+
+-- the view of nobody
+abbrev pub no_view : View
+no_view = record { number = 0; start = 1; f = 0; members = [] }
+
+-- a node that stands for none
+abbrev pub nobody : {S : Type 0} → Meaning S → Node S
+nobody m = opened (outset m [] 0 no_view 0)
+
+-- the bytes of the entries that a node made in a life that began with so many
+abbrev pub made_texts : ℕ → List LogEntry → List (List ℕ)
+made_texts restored entries = map entry_text (drop restored entries)
+
+-- the number of a Firm was read from the lane
+abbrev pub IsRead : ℕ → NodeEvent → Type 0
+IsRead read (Arrive bytes) = Unit {0}
+IsRead read Tick = Unit {0}
+IsRead read Deliver = Unit {0}
+IsRead read (Firm count) = count ≤ read
+
+-- the place of the replica whose snapshot bytes are, if they are a replica's
+abbrev pub place_in : {S : Type 0} → Meaning S → List ℕ → Option ℕ
+place_in m bytes = option_map (λ r. r.place) (restored m bytes)
+
+-- A tail that the log of a life has beside a checkpoint of a place, at some moment.
+abbrev pub IsTailOf : {S : Type 0} → Meaning S → Node S → ℕ → Tail → Type 0
+IsTailOf m opening place tail =
+    (events : List TrailEvent) × ((tail.made ≡ (tail_of (replay (core_steps m) opening events) place).made) × (tail.entries ≡ (tail_of (replay (core_steps m) opening events) place).entries))
+
+release_prop : (a : Addressed) (held : Option Held) → IsProp (IsRelease a held)
+release_prop a None = hlevel props
+release_prop a (Some h) = hlevel props
+
+may_prop : {S : Type 0} (n : Node S) (e : TrailEvent) → IsProp (MayCome n e)
+may_prop n (Happens event) = hlevel props
+may_prop n (Send a) = release_prop a (first_leaving n.firm n.held)
+may_prop n (Lost a) = hlevel props
+may_prop n (Polls count) = hlevel props
+may_prop n End = hlevel props
+
+pub released_prop : {S : Type 0} (step : Step S) (n : Node S) (events : List TrailEvent) → IsProp (Released step n events)
+released_prop step n [] = hlevel props
+released_prop step n (e ∷ events) =
+    let first = may_prop n e in
+    let rest = released_prop step (after step n e) events in
+    hlevel (props, first, rest)

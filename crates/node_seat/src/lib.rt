@@ -1,0 +1,12 @@
+//! The seat of a running node: its core, the trail of all that happened to it, and its ends of the
+//! lane and of the links, which threads share under one lock.
+#![tactic(auto)]
+
+pub mod life;
+pub mod place;
+pub mod played;
+pub mod seat;
+pub mod snapshot;
+mod texts;
+pub mod turns;
+pub mod writing;

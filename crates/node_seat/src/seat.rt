@@ -1,0 +1,275 @@
+//! The seat: a core with its trail and lane, the ends of two links, and the sink of the trail.
+ghost use Rattle.std.specs.Prelude.{◌≡◌, ◌≤◌, false, true};
+ghost use Rattle.std.specs.Io.KnownBytes.{Appends};
+ghost use Rattle.faults.specs.Counts.{Rose};
+ghost use Rattle.group_links.specs.Link.{link_put, link_taken, in_link, out_link};
+ghost use Rattle.trail.specs.Trails.{trail_text};
+ghost use Rattle.trail_rules.specs.Replays.{arrivals};
+ghost use Rattle.node_seat.specs.Seats.{payloads, IsFirst, HasWrittenFirst, whole_prop, first_prop};
+
+use crate::place::Place;
+use crate::played::{Happened, Played, SeatEnd, Sent};
+use crate::snapshot::Snapshot;
+use crate::writing::{put_on, write_part};
+use group_links::inward::LinkIn;
+use group_links::outward::LinkOut;
+use node_core::node::Outcome;
+use smart_base::sequence::Bytes;
+use smart_io::stream::Sink;
+use smart_service::service::Service;
+use smart_statements::entry::NodeEvent;
+use std::marker::PhantomData;
+use std::sync::{Mutex, Wait};
+
+/// The seat of a running node. What was put on the link of what leaves is what the trail sends, and
+/// what was taken from the other is what arrived by the trail. The sink has the text of the trail.
+/// Once the seat is over, because a call has failed, each is a front of the other.
+pub struct Seat<S: Service, P: Place<S>, O: Sink> {
+    pub inner: Played<S, P>,
+    pub(crate) from: LinkOut<Bytes>,
+    pub(crate) to: LinkIn<Bytes>,
+    pub(crate) sink: O,
+    /// Whether nothing more happens to the node.
+    pub over: bool,
+    /// Whether the input is at its end.
+    pub closing: bool,
+    /// Whether the sink of the trail has failed.
+    pub failed: bool,
+    pub(crate) handed: Option<Snapshot<S>>,
+    of: PhantomData<P>,
+    pub ghost whole: { over ≡ false → inner.stuck ≡ false },
+    pub ghost came: { IsFirst (arrivals inner.trail.items) (link_taken from) },
+    pub ghost all_came: { over ≡ false → link_taken from ≡ arrivals inner.trail.items },
+    pub ghost left: { IsFirst (link_put to) (payloads inner.trail.items) },
+    pub ghost all_left: { over ≡ false → link_put to ≡ payloads inner.trail.items },
+    pub ghost text: { HasWrittenFirst P.begun (O.written sink) (trail_text P.head P.entries inner.trail.items) } by { first_prop P.begun (O.written sink) (trail_text P.head P.entries inner.trail.items) },
+    pub ghost all_text: { over ≡ false → Appends P.begun (O.written sink) (trail_text P.head P.entries inner.trail.items) } by { whole_prop over P.begun (O.written sink) (trail_text P.head P.entries inner.trail.items) },
+    pub ghost named: { (out_link from ≡ P.arriving) × (in_link to ≡ P.leaving) },
+    pub ghost later: { P.failures ≤ O.faults sink },
+    pub ghost cause: { failed ≡ true → Rose P.failures (O.faults sink) },
+}
+
+/// What is left of a seat.
+pub struct SeatParts<S: Service, P: Place<S>, O: Sink> {
+    pub inner: Played<S, P>,
+    pub from: LinkOut<Bytes>,
+    pub to: LinkIn<Bytes>,
+    pub sink: O,
+    pub over: bool,
+    pub failed: bool,
+}
+
+/// The seat that threads share.
+pub type NodeCell<S, P, O> = Mutex<Seat<S, P, O>>;
+
+/// Let go by one call, so that no function that lets one go carries the whole of it.
+impl<S: Service, P: Place<S>, O: Sink + Drop> Drop for Seat<S, P, O> {
+    fn drop(self) {
+        let Seat {
+            inner: _,
+            from: _,
+            to: _,
+            sink: _,
+            over: _,
+            closing: _,
+            failed: _,
+            handed: _,
+            of: _,
+        } = self;
+    }
+}
+
+impl<S: Service, P: Place<S>, O: Sink> Seat<S, P, O> {
+    ghost use Rattle.std.specs.Prelude.{◌≡◌, ◌≤◌, ◌+◌, ◌++◌, ◌∷◌, [], List, ℕ, false, true, length, None, IfOk, OnOk, OnErr, IsErrOf, IsTrue, MatchBool};
+    ghost use Rattle.std.specs.Io.KnownBytes.{Appends};
+    ghost use Rattle.faults.specs.Counts.{Rose};
+    ghost use Rattle.log_lane.specs.Lane.{lane_read, lane_room};
+    ghost use Rattle.group_links.specs.Link.{link_put, link_taken, in_link, out_link};
+    ghost use Rattle.node_rules.specs.Steps.{first_leaving};
+    ghost use Rattle.trail.specs.Trails.{trail_text};
+    ghost use Rattle.trail.specs.declared.event.Addressed.{Addressed};
+    ghost use Rattle.trail.specs.declared.event.TrailEvent.TheVariants.{Happens, Send, End};
+    ghost use Rattle.trail_rules.specs.Replays.{core_steps, replay, arrivals};
+    ghost use Rattle.smart_statements.specs.declared.entry.NodeEvent.TheVariants.{Arrive};
+    ghost use Rattle.node_seat.specs.Lives.{IsRead};
+    ghost use Rattle.node_seat.specs.Seats.{IsOwn, IsFirst, HasWrittenFirst, payloads};
+
+    /// A seat over a core at its opening, links on which nothing went, and a sink that has the head of
+    /// the trail.
+    pub fn new(
+        inner: Played<S, P>,
+        from: LinkOut<Bytes>,
+        to: LinkIn<Bytes>,
+        sink: O,
+    ) -> Seat<S, P, O>
+        requires inner { (inner.trail.items ≡ []) × (inner.stuck ≡ false) }
+        requires from { (out_link from ≡ P.arriving) × (link_taken from ≡ []) }
+        requires to { (in_link to ≡ P.leaving) × (link_put to ≡ []) }
+        requires sink { Appends P.begun (O.written sink) (trail_text P.head P.entries []) }
+        requires later { P.failures ≤ O.faults sink }
+        ensures { (result.inner.trail.items ≡ []) × (result.over ≡ false) }
+    {
+        Seat {
+            inner,
+            from,
+            to,
+            sink,
+            over: false,
+            closing: false,
+            failed: false,
+            handed: None,
+            of: PhantomData,
+        }
+    }
+
+    /// Whether nothing more happens to the node.
+    pub fn is_over(&self) -> bool
+        ensures { result ≡ self.now.over }
+    {
+        self.over
+    }
+
+    /// Lets nothing more happen to the node.
+    pub fn stop(&mut self)
+        ensures { (self.new.over ≡ true) × (self.new.inner.trail.items ≡ self.old.inner.trail.items) }
+    {
+        self.over = true;
+    }
+
+    /// Whether the input is at its end.
+    pub fn is_closing(&self) -> bool
+        ensures { result ≡ self.now.closing }
+    {
+        self.closing
+    }
+
+    /// Notes that the input is at its end.
+    pub fn close(&mut self)
+        ensures { (self.new.over ≡ self.old.over) × (self.new.inner.trail.items ≡ self.old.inner.trail.items) }
+    {
+        self.closing = true;
+    }
+
+    /// Takes what was handed over last.
+    pub fn take_handed(&mut self) -> Option<Snapshot<S>> {
+        self.handed.take()
+    }
+
+    /// Hands a snapshot over, in the place of what was handed before.
+    pub fn hand(&mut self, snapshot: Snapshot<S>) {
+        self.handed = Some(snapshot);
+    }
+
+    /// Reads how many entries of this life are firm.
+    pub fn look(&mut self) -> u64
+        ensures read { result ≡ lane_read self.new.inner.lane }
+        ensures same { (self.new.over ≡ self.old.over) × (self.new.inner.trail.items ≡ self.old.inner.trail.items) }
+    {
+        self.inner.look()
+    }
+
+    /// Plays an event that is no arrival, and writes it into the trail. Errors: a failure of the trail's
+    /// sink; want of memory. The seat is over then.
+    pub fn event<R: Wait>(&mut self, rt: &R, event: NodeEvent) -> Result<Outcome, SeatEnd>
+        requires over { self.old.over ≡ false }
+        requires room { 8 ≤ lane_room self.old.inner.lane }
+        requires own { IsOwn event }
+        requires read { IsRead (lane_read self.old.inner.lane) event }
+        ensures ok { OnOk result ((self.new.inner.trail.items ≡ self.old.inner.trail.items ++ Happens event ∷ []) × (self.new.over ≡ false)) }
+        ensures err { OnErr result (self.new.over ≡ true) }
+        ensures cause { IsErrOf result SeatEnd.TrailFault → self.new.failed ≡ true }
+    {
+        self.over = true;
+        let Happened { outcome, text } = self.inner.event(rt, event)?;
+        write_part(&mut self.sink, &mut self.failed, text.as_slice())?;
+        self.over = false;
+        Ok(outcome)
+    }
+
+    /// Plays the next message that arrived, and says whether there was one. Errors: as at `event`.
+    pub fn arrive<R: Wait>(&mut self, rt: &R) -> Result<bool, SeatEnd>
+        requires over { self.old.over ≡ false }
+        requires room { 8 ≤ lane_room self.old.inner.lane }
+        ensures ok { IfOk result (λ came. MatchBool came ((bytes : List ℕ) × (self.new.inner.trail.items ≡ self.old.inner.trail.items ++ Happens (Arrive bytes) ∷ [])) (self.new.inner.trail.items ≡ self.old.inner.trail.items)) }
+        ensures whole { OnOk result (self.new.over ≡ false) }
+        ensures err { OnErr result (self.new.over ≡ true) }
+        ensures cause { IsErrOf result SeatEnd.TrailFault → self.new.failed ≡ true }
+    {
+        let Some(bytes) = self.from.poll(rt) else {
+            return Ok(false);
+        };
+        self.over = true;
+        let Happened { outcome: _, text } = self.inner.event(rt, NodeEvent::Arrive(bytes))?;
+        write_part(&mut self.sink, &mut self.failed, text.as_slice())?;
+        self.over = false;
+        Ok(true)
+    }
+
+    /// Sends the next message that leaves, and says whether there was one. `false` if and only if nothing
+    /// is held or the first message waits for its entries. Errors: as at `event`.
+    pub fn send<R: Wait>(&mut self, rt: &R) -> Result<bool, SeatEnd>
+        requires over { self.old.over ≡ false }
+        ensures ok { IfOk result (λ left. MatchBool left ((a : Addressed) × (self.new.inner.trail.items ≡ self.old.inner.trail.items ++ Send a ∷ []))
+            ((self.new.inner.trail.items ≡ self.old.inner.trail.items) × (first_leaving (replay (core_steps S.meaning) P.opening self.old.inner.trail.items).firm (replay (core_steps S.meaning) P.opening self.old.inner.trail.items).held ≡ None))) }
+        ensures whole { OnOk result (self.new.over ≡ false) }
+        ensures err { OnErr result (self.new.over ≡ true) }
+        ensures cause { IsErrOf result SeatEnd.TrailFault → self.new.failed ≡ true }
+    {
+        self.over = true;
+        let Some(sent) = self.inner.send()? else {
+            self.over = false;
+            return Ok(false);
+        };
+        let Sent { text, payload } = sent;
+        write_part(&mut self.sink, &mut self.failed, text.as_slice())?;
+        put_on(rt, &mut self.to, payload);
+        self.over = false;
+        Ok(true)
+    }
+
+    /// Notes that the trail is whole. Errors: as at `event`.
+    pub fn end(&mut self) -> Result<(), SeatEnd>
+        requires { self.old.over ≡ false }
+        ensures ok { OnOk result ((self.new.inner.trail.items ≡ self.old.inner.trail.items ++ End ∷ []) × (self.new.over ≡ false)) }
+        ensures err { OnErr result (self.new.over ≡ true) }
+        ensures cause { IsErrOf result SeatEnd.TrailFault → self.new.failed ≡ true }
+    {
+        self.over = true;
+        let text = self.inner.end()?;
+        write_part(&mut self.sink, &mut self.failed, text.as_slice())?;
+        self.over = false;
+        Ok(())
+    }
+
+    /// What is left of a seat: its core with trail and lane, the ends of its links, and the sink of its
+    /// trail.
+    pub fn into_parts(self) -> SeatParts<S, P, O>
+        ensures inner { (result.inner ≡ self.inner) × (result.over ≡ self.over) }
+        ensures whole { result.over ≡ false → result.inner.stuck ≡ false }
+        ensures from { (out_link result.from ≡ P.arriving) × IsFirst (arrivals result.inner.trail.items) (link_taken result.from) }
+        ensures to { (in_link result.to ≡ P.leaving) × IsFirst (link_put result.to) (payloads result.inner.trail.items) }
+        ensures text { HasWrittenFirst P.begun (O.written result.sink) (trail_text P.head P.entries result.inner.trail.items) }
+        ensures all { result.over ≡ false → (link_taken result.from ≡ arrivals result.inner.trail.items) × ((link_put result.to ≡ payloads result.inner.trail.items) × Appends P.begun (O.written result.sink) (trail_text P.head P.entries result.inner.trail.items)) }
+        ensures failed { result.failed ≡ true → Rose P.failures (O.faults result.sink) }
+    {
+        let Seat {
+            inner,
+            from,
+            to,
+            sink,
+            over,
+            closing: _,
+            failed,
+            handed: _,
+            of: _,
+        } = self;
+        SeatParts {
+            inner,
+            from,
+            to,
+            sink,
+            over,
+            failed,
+        }
+    }
+}

@@ -1,0 +1,99 @@
+//! A snapshot that is handed over between workers.
+ghost use Rattle.std.specs.Prelude.{◌≡◌, ◌<◌, ◌^◌, length, Some, IfOk, IfSome};
+ghost use Rattle.node_seat.specs.Lives.{place_in};
+
+use smart_base::sequence::Bytes;
+use smart_service::fault::RestoreError;
+use smart_service::service::Service;
+use snapshot_form::reading::from_bytes;
+use std::alloc::{AllocError, Global};
+use std::marker::PhantomData;
+
+/// The greatest length of a snapshot in bytes.
+const SNAPSHOT_BYTES: usize = 0xffff_ffff;
+
+/// The bytes of a replica, with the replica's place.
+pub struct Snapshot<S: Service> {
+    pub place: u64,
+    pub bytes: Bytes,
+    of: PhantomData<S>,
+    pub ghost fits: { length bytes < 2 ^ 32 },
+    pub ghost whole: { place_in S.meaning bytes ≡ Some place },
+}
+
+/// Let go by one call, so that no function that lets one go carries the whole of it.
+impl<S: Service> Drop for Snapshot<S> {
+    fn drop(self) {
+        let Snapshot {
+            place: _,
+            bytes: _,
+            of: _,
+        } = self;
+    }
+}
+
+/// The place of the replica whose bytes these are, if they are a replica's. Error: want of memory.
+fn place_in<S: Service>(alloc: Global, bytes: &[u8]) -> Result<Option<u64>, AllocError>
+    ensures { IfOk result (λ place. place ≡ place_in S.meaning bytes.now) }
+{
+    match from_bytes::<S>(alloc, bytes) {
+        Ok(replica) => Ok(Some(replica.place.get())),
+        Err(RestoreError::BadSnapshot) => Ok(None),
+        Err(RestoreError::NoMemory) => Err(AllocError),
+    }
+}
+
+impl<S: Service> Snapshot<S> {
+    ghost use Rattle.std.specs.Prelude.{◌≡◌, ◌<◌, ◌^◌, length, Some, IfOk, IfSome};
+    ghost use Rattle.node_seat.specs.Lives.{place_in};
+
+    /// Bytes as those of a replica of this place. It takes no memory.
+    pub fn of(place: u64, bytes: Bytes) -> Snapshot<S>
+        requires fits { length bytes < 2 ^ 32 }
+        requires whole { place_in S.meaning bytes ≡ Some place }
+        ensures { (result.place ≡ place) × (result.bytes ≡ bytes) }
+    {
+        Snapshot {
+            place,
+            bytes,
+            of: PhantomData,
+        }
+    }
+
+    /// Bytes as those of a replica of this place, unless they are none. Error: want of memory.
+    pub fn checked(
+        alloc: Global,
+        place: u64,
+        bytes: Bytes,
+    ) -> Result<Option<Snapshot<S>>, AllocError>
+        ensures { IfOk result (λ found. IfSome found (λ s. (s.place ≡ place) × (s.bytes ≡ bytes))) }
+    {
+        if bytes.len() > SNAPSHOT_BYTES {
+            return Ok(None);
+        }
+        match place_in::<S>(alloc, bytes.as_slice())? {
+            Some(found) => {
+                if found == place {
+                    Ok(Some(Snapshot::of(place, bytes)))
+                } else {
+                    Ok(None)
+                }
+            }
+            None => Ok(None),
+        }
+    }
+
+    /// Its place and its bytes.
+    pub fn into_pair(self) -> (u64, Bytes)
+        ensures same { (result.0 ≡ self.place) × (result.1 ≡ self.bytes) }
+        ensures fits { length result.1 < 2 ^ 32 }
+        ensures whole { place_in S.meaning result.1 ≡ Some result.0 }
+    {
+        let Snapshot {
+            place,
+            bytes,
+            of: _,
+        } = self;
+        (place, bytes)
+    }
+}
