@@ -19,8 +19,9 @@ use std::sync::Wait;
 use store_form::ends::{LogFault, State};
 use store_plan::stops::Stops;
 
-/// A worker over the far end of a lane and a store. What it has said is stored is firm in its store, at
-/// any time. Until a round fails, each entry that it took is firm or waits in the store.
+/// A worker over the far end of a lane and a store. At any time as many entries are firm in its store as
+/// were restored and it has said are stored. Until a round fails, those restored and those that it took
+/// are as many as are firm or wait in the store, or fewer.
 #[derive(Drop)]
 pub struct LogWorker<D: Disk, H: Home> {
     alloc: Global,
@@ -87,7 +88,7 @@ impl<D: Disk, H: Home> LogWorker<D, H> {
         self.faulty
     }
 
-    /// The end of the lane, and the store. What was said to be stored is firm.
+    /// The end of the lane, and the store. As many entries are firm as were restored and said to be stored.
     pub fn into_parts(self) -> (LaneOut<EntryText>, Store<D>)
         ensures lane { (result.0 ≡ self.lane) × (out_lane result.0 ≡ H.lane) }
         ensures store { (result.1 ≡ self.store) × (H.restored + lane_raised result.0 ≤ result.1.plan.firm) }

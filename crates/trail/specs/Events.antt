@@ -31,7 +31,7 @@ is_one (Node member) = true
 is_one (Client client) = true
 is_one View = false
 
--- The bytes of a message and of who receives it. A frame that a node writes has these bytes, too.
+-- The bytes of a message and of who receives it.
 unfoldable pub addressed_text : Addressed → List ℕ
 addressed_text a = u8 (target_kind a.to) ++ (u16 (target_id a.to) ++ spelling a.message)
 

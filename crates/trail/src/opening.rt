@@ -15,7 +15,7 @@ pub enum App {
 pub struct TrailOpening {
     /// The member; 0 in the trail of a client.
     pub member: u16,
-    /// The number of places in which each member takes one checkpoint: at least the number of members.
+    /// The number of places in which each member takes one checkpoint.
     pub period: u32,
     /// The group's first view.
     pub view: View,
