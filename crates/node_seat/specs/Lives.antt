@@ -30,7 +30,7 @@ nobody m = opened (outset m [] 0 no_view 0)
 abbrev pub made_texts : ℕ → List LogEntry → List (List ℕ)
 made_texts restored entries = map entry_text (drop restored entries)
 
--- the number of a Firm was read from the lane
+-- the number of a Firm is at most what was read from the lane
 abbrev pub IsRead : ℕ → NodeEvent → Type 0
 IsRead read (Arrive bytes) = Unit {0}
 IsRead read Tick = Unit {0}
@@ -41,7 +41,7 @@ IsRead read (Firm count) = count ≤ read
 abbrev pub place_in : {S : Type 0} → Meaning S → List ℕ → Option ℕ
 place_in m bytes = option_map (λ r. r.place) (restored m bytes)
 
--- A tail that the log of a life has beside a checkpoint of a place, at some moment.
+-- A tail that a log has beside a checkpoint of a place, after some events from this opening.
 abbrev pub IsTailOf : {S : Type 0} → Meaning S → Node S → ℕ → Tail → Type 0
 IsTailOf m opening place tail =
     (events : List TrailEvent) × ((tail.made ≡ (tail_of (replay (core_steps m) opening events) place).made) × (tail.entries ≡ (tail_of (replay (core_steps m) opening events) place).entries))

@@ -23,7 +23,7 @@ payloads events = map addressed_text (sends events)
 abbrev pub IsFirst : {A : Type 0} → List A → List A → Type 0
 IsFirst front all = take (length front) all ≡ front
 
--- What a sink tells is what it told when its seat began, and then a front of this text. A sink that told nothing then may tell anything.
+-- What a sink tells is what it told before the head was written, and then a front of this text. A sink that told nothing then may tell anything.
 abbrev pub HasWrittenFirst : Option (List ℕ) → Option (List ℕ) → List ℕ → Type 0
 HasWrittenFirst None now text = Unit {0}
 HasWrittenFirst (Some before) None text = ⊥

@@ -86,7 +86,7 @@ fn short_text(alloc: Global, event: &TrailEvent) -> Result<Bytes, AllocError>
 }
 
 /// A core that is the replay of a trail, and the end of the lane that has its entries. If want of
-/// memory stopped an event half-way, it is stuck: the core may then be another, and no more happens.
+/// memory stopped an event half-way, it is stuck: the core may then be another, and no event is played.
 pub struct Played<S: Service, P: Life<S>> {
     pub(crate) alloc: Global,
     pub(crate) core: NodeCore<S>,
@@ -181,7 +181,7 @@ impl<S: Service, P: Life<S>> Played<S, P> {
         self.lane.firm()
     }
 
-    /// How many entries of this life are firm by what the core was told.
+    /// How many entries are firm by what the core was told, those restored among them.
     pub fn firm(&self) -> u64
         ensures { result ≡ self.now.core.node.firm }
     {
@@ -232,7 +232,7 @@ impl<S: Service, P: Life<S>> Played<S, P> {
     }
 
     /// Plays an event. Gives what the core tells of it, and the bytes of the event. Error: want of memory,
-    /// also for an event that no frame has room for.
+    /// also for an event of 2^32 bytes or more.
     pub fn event<R: Wait>(&mut self, rt: &R, event: NodeEvent) -> Result<Happened, SeatEnd>
         requires whole { self.old.stuck ≡ false }
         requires room { 8 ≤ lane_room self.old.lane }
@@ -266,7 +266,7 @@ impl<S: Service, P: Life<S>> Played<S, P> {
     }
 
     /// Takes out the next message that leaves, if there is one. Gives the bytes of its event and the
-    /// payload of its frame. Error: want of memory, also for a message that no frame has room for.
+    /// payload of its frame. Error: want of memory, also for an event of 2^32 bytes or more.
     pub fn send(&mut self) -> Result<Option<Sent>, SeatEnd>
         requires whole { self.old.stuck ≡ false }
         ensures sent { IfOk result (λ o. MatchOption o

@@ -22,8 +22,9 @@ use std::marker::PhantomData;
 use std::sync::{Mutex, Wait};
 
 /// The seat of a running node. What was put on the link of what leaves is what the trail sends, and
-/// what was taken from the other is what arrived by the trail. The sink has the text of the trail.
-/// Once the seat is over, because a call has failed, each is a front of the other.
+/// what was taken from the other is what arrived by the trail. A sink that tells its bytes has the text
+/// of the trail. A seat is over once a call has failed or it was stopped. Then the arrivals are a front
+/// of what was taken, what was put is one of what the trail sends, and the sink has one of the text.
 pub struct Seat<S: Service, P: Place<S>, O: Sink> {
     pub inner: Played<S, P>,
     pub(crate) from: LinkOut<Bytes>,
@@ -94,8 +95,8 @@ impl<S: Service, P: Place<S>, O: Sink> Seat<S, P, O> {
     ghost use Rattle.node_seat.specs.Lives.{IsRead};
     ghost use Rattle.node_seat.specs.Seats.{IsOwn, IsFirst, HasWrittenFirst, payloads};
 
-    /// A seat over a core at its opening, links on which nothing went, and a sink that has the head of
-    /// the trail.
+    /// A seat over a core at its opening, a link from which nothing was taken, one on which nothing was
+    /// put, and a sink that has the head of the trail.
     pub fn new(
         inner: Played<S, P>,
         from: LinkOut<Bytes>,

@@ -60,7 +60,8 @@ impl<S: Service> Snapshot<S> {
         }
     }
 
-    /// Bytes as those of a replica of this place, unless they are none. Error: want of memory.
+    /// Bytes as those of a replica of this place. `None`: they are none, or have 2^32 bytes or more. Error:
+    /// want of memory.
     pub fn checked(
         alloc: Global,
         place: u64,
