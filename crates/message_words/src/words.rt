@@ -1,6 +1,6 @@
 //! What a transcript tells of a message that was sent, and the words for it.
 ghost use Rattle.std.specs.Prelude.{◌≡◌, ◌++◌, OnOk, string_bytes};
-ghost use Rattle.message_words.specs.Words.{vote_summary, regency_locked, summary_of, lock_text, bound_text, summary_text};
+ghost use Rattle.message_words.specs.Words.{vote_summary, regency_locked, summary_of, after_space, lock_text, bound_text, summary_text};
 
 use regency_sync::choosing::choice;
 use smart_base::name::ClientId;
@@ -201,17 +201,98 @@ pub fn bound_text(bound: bool) -> &'static str
     if bound { " bound" } else { " free" }
 }
 
+/// A number behind a space.
+fn push_number(out: &mut String, number: u64) -> Result<(), AllocError>
+    ensures { OnOk result (string_bytes out.new ≡ string_bytes out.old ++ after_space number) }
+{
+    write!(out, " {number}")
+}
+
+/// A word and a number.
+fn push_one(out: &mut String, word: &str, number: u64) -> Result<(), AllocError>
+    ensures { OnOk result (string_bytes out.new ≡ string_bytes out.old ++ (word.now ++ after_space number)) }
+{
+    out.push_str(word)?;
+    push_number(out, number)?;
+    Ok(())
+}
+
+/// A word and two numbers.
+fn push_two(out: &mut String, word: &str, first: u64, second: u64) -> Result<(), AllocError>
+    ensures { OnOk result (string_bytes out.new ≡ string_bytes out.old ++ (word.now ++ (after_space first ++ after_space second))) }
+{
+    push_one(out, word, first)?;
+    push_number(out, second)?;
+    Ok(())
+}
+
+/// A word and three numbers.
+fn push_three(
+    out: &mut String,
+    word: &str,
+    first: u64,
+    second: u64,
+    third: u64,
+) -> Result<(), AllocError>
+    ensures { OnOk result (string_bytes out.new ≡ string_bytes out.old ++ (word.now ++ (after_space first ++ (after_space second ++ after_space third)))) }
+{
+    push_two(out, word, first, second)?;
+    push_number(out, third)?;
+    Ok(())
+}
+
+/// A word and four numbers.
+fn push_four(
+    out: &mut String,
+    word: &str,
+    first: u64,
+    second: u64,
+    third: u64,
+    fourth: u64,
+) -> Result<(), AllocError>
+    ensures { OnOk result (string_bytes out.new ≡ string_bytes out.old ++ (word.now ++ (after_space first ++ (after_space second ++ (after_space third ++ after_space fourth))))) }
+{
+    push_three(out, word, first, second, third)?;
+    push_number(out, fourth)?;
+    Ok(())
+}
+
 /// The regency of a lock behind a space, or a dash.
 fn push_lock(out: &mut String, lock: Option<Regency>) -> Result<(), AllocError>
     ensures { OnOk result (string_bytes out.new ≡ string_bytes out.old ++ lock_text lock) }
 {
     match lock {
         None => out.push_str(" -"),
-        Some(regency) => {
-            let regency = regency.get();
-            write!(out, " {regency}")
-        }
+        Some(regency) => push_number(out, regency.get() as u64),
     }
+}
+
+fn push_stop_data(
+    out: &mut String,
+    view: u64,
+    regency: u64,
+    last: u64,
+    lock: Option<Regency>,
+) -> Result<(), AllocError>
+    ensures { OnOk result (string_bytes out.new ≡ string_bytes out.old ++ summary_text (Summary.StopData view regency last lock)) }
+{
+    push_three(out, "stopdata", view, regency, last)?;
+    push_lock(out, lock)?;
+    Ok(())
+}
+
+fn push_sync(
+    out: &mut String,
+    view: u64,
+    regency: u64,
+    base: u64,
+    bound: bool,
+) -> Result<(), AllocError>
+    ensures { OnOk result (string_bytes out.new ≡ string_bytes out.old ++ summary_text (Summary.Sync view regency base bound)) }
+{
+    push_three(out, "sync", view, regency, base)?;
+    out.push_str(bound_text(bound))?;
+    Ok(())
 }
 
 /// The words of what a transcript tells of a message.
@@ -219,92 +300,88 @@ pub fn push_summary(out: &mut String, summary: Summary) -> Result<(), AllocError
     ensures { OnOk result (string_bytes out.new ≡ string_bytes out.old ++ summary_text summary) }
 {
     match summary {
-        Summary::Ask { client, seq, after } => {
-            let client = client.get();
-            write!(out, "ask {client} {seq} {after}")
-        }
+        Summary::Ask { client, seq, after } => push_three(
+            out,
+            "ask",
+            client.get() as u64,
+            seq,
+            after,
+        ),
         Summary::Propose {
             view,
             place,
             regency,
             requests,
-        } => {
-            let (view, place, regency) = (view.get(), place.get(), regency.get());
-            write!(out, "propose {view} {place} {regency} {requests}")
-        }
+        } => push_four(
+            out,
+            "propose",
+            view.get() as u64,
+            place.get(),
+            regency.get() as u64,
+            requests,
+        ),
         Summary::Write {
             view,
             place,
             regency,
-        } => {
-            let (view, place, regency) = (view.get(), place.get(), regency.get());
-            write!(out, "write {view} {place} {regency}")
-        }
+        } => push_three(
+            out,
+            "write",
+            view.get() as u64,
+            place.get(),
+            regency.get() as u64,
+        ),
         Summary::Accept {
             view,
             place,
             regency,
-        } => {
-            let (view, place, regency) = (view.get(), place.get(), regency.get());
-            write!(out, "accept {view} {place} {regency}")
-        }
+        } => push_three(
+            out,
+            "accept",
+            view.get() as u64,
+            place.get(),
+            regency.get() as u64,
+        ),
         Summary::Reply {
             client,
             seq,
             place,
             index,
-        } => {
-            let (client, place) = (client.get(), place.get());
-            write!(out, "reply {client} {seq} {place} {index}")
-        }
-        Summary::Stop { view, regency } => {
-            let (view, regency) = (view.get(), regency.get());
-            write!(out, "stop {view} {regency}")
-        }
+        } => push_four(
+            out,
+            "reply",
+            client.get() as u64,
+            seq,
+            place.get(),
+            index as u64,
+        ),
+        Summary::Stop { view, regency } => push_two(
+            out,
+            "stop",
+            view.get() as u64,
+            regency.get() as u64,
+        ),
         Summary::StopData {
             view,
             regency,
             last,
             lock,
-        } => {
-            let (view, regency) = (view.get(), regency.get());
-            write!(out, "stopdata {view} {regency} {last}")?;
-            push_lock(out, lock)
-        }
+        } => push_stop_data(out, view.get() as u64, regency.get() as u64, last, lock),
         Summary::Sync {
             view,
             regency,
             base,
             bound,
-        } => {
-            let (view, regency) = (view.get(), regency.get());
-            write!(out, "sync {view} {regency} {base}")?;
-            out.push_str(bound_text(bound))
-        }
-        Summary::Mark { place } => {
-            let place = place.get();
-            write!(out, "mark {place}")
-        }
-        Summary::Decision { place } => {
-            let place = place.get();
-            write!(out, "decision {place}")
-        }
-        Summary::StateAsk { place, fetch } => {
-            let (place, fetch) = (place.get(), fetch.get());
-            write!(out, "stateask {place} {fetch}")
-        }
-        Summary::Offer { place, marks } => {
-            let place = place.get();
-            write!(out, "offer {place} {marks}")
-        }
+        } => push_sync(out, view.get() as u64, regency.get() as u64, base, bound),
+        Summary::Mark { place } => push_one(out, "mark", place.get()),
+        Summary::Decision { place } => push_one(out, "decision", place.get()),
+        Summary::StateAsk { place, fetch } => push_two(out, "stateask", place.get(), fetch.get()),
+        Summary::Offer { place, marks } => push_two(out, "offer", place.get(), marks),
         Summary::Part {
             place,
             index,
             total,
-        } => {
-            let place = place.get();
-            write!(out, "part {place} {index} {total}")
-        }
+        } => push_three(out, "part", place.get(), index as u64, total as u64),
         Summary::Raw => out.push_str("raw"),
     }
 }
