@@ -42,7 +42,7 @@ use Rattle.node_state.specs.Broken.{IsPartly}
 use Rattle.node_state.proofs.Broken.{partly_all}
 use Rattle.node_state.proofs.Stopped.{pass_grows}
 use Rattle.node_core.proofs.Broken.{front_grow}
-use Rattle.node_core.proofs.Marking.{stating}
+use Rattle.node_replica.proofs.Marking.{stating}
 
 -- a node with snapshots in front of those that it took
 abbrev pub with_front : {S : Type 0} → List OwnSnapshot → Node S → Node S

@@ -4,7 +4,7 @@ ghost use Rattle.smart_base.specs.Views.{present};
 ghost use Rattle.vote_book.specs.Entries.{entry_decoded};
 ghost use Rattle.node_rules.specs.Reopening.{damaged, entries_in, reopened};
 ghost use Rattle.node_rules.specs.Steps.{Outset};
-ghost use Rattle.node_core.specs.Resuming.{gone_on};
+ghost use Rattle.node_opening.specs.Resuming.{gone_on};
 ghost use Rattle.node_core.specs.Reopeners.{Reopening, taken_after, read_on, IsDamaged, IsAfter};
 
 use smart_service::service::Service;

@@ -13,10 +13,10 @@ ghost use Rattle.node_rules.specs.Transfers.{completed_by};
 ghost use Rattle.node_state.specs.Broken.{IsPartly};
 
 use crate::completing::completed_by;
-use crate::marks::{place_wanted, wanted};
-use crate::reopen::begin;
 use crate::step::step;
 use crate::tail::tail;
+use node_opening::reopen::begin;
+use node_replica::marks::{place_wanted, wanted};
 use node_rules::node::{BookTail, Fired, Held, OwnSnapshot, Why};
 use node_state::state::NodeState;
 use outbox::outbox::Outbox;

@@ -5,9 +5,9 @@ ghost use Rattle.node_core.specs.Apart.{time_rows, front_rows};
 ghost use Rattle.node_state.specs.Broken.{IsPartly};
 
 use crate::answers::answers_call;
-use crate::delivers::delivers;
-use crate::install::installs;
-use crate::marks::marks_place;
+use node_replica::delivers::delivers;
+use node_replica::install::installs;
+use node_replica::marks::marks_place;
 use node_rules::node::{Cause, Fired};
 use node_state::state::NodeState;
 use node_turns::times::times;

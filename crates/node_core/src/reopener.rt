@@ -7,12 +7,12 @@ ghost use Rattle.vote_book.specs.Entries.{entry_decoded};
 ghost use Rattle.node_rules.specs.Reopening.{replica_from, damaged, damage_of, outset_from, reopened_from};
 ghost use Rattle.node_rules.specs.Steps.{Outset};
 ghost use Rattle.node_restart.specs.declared.fault.ReopenFault.TheVariants.{Damaged, NoMemory};
-ghost use Rattle.node_core.specs.Resuming.{gone_on};
+ghost use Rattle.node_opening.specs.Resuming.{gone_on};
 ghost use Rattle.node_core.specs.Reopeners.{taken_after, read_on, IsDamaged, IsAfter};
 
 use crate::node::NodeCore;
-use crate::reopen::resume;
 use delivery::replica::KeptReplica;
+use node_opening::reopen::resume;
 use node_restart::fault::ReopenFault;
 use node_restart::restart::Restart;
 use node_rules::node::{OwnSnapshot, Parts};

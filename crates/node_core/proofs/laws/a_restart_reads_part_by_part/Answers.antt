@@ -1,4 +1,4 @@
-use Rattle.node_core.proofs.Resuming.{after_more, after_damaged, after_all}
+use Rattle.node_core.proofs.Reopeners.{after_more, after_damaged, after_all}
 use Rattle.node_core.proofs.laws.a_restart_reads_part_by_part.Goals as goal
 
 pub returns : goal.returns

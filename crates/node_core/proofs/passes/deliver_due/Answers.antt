@@ -1,6 +1,6 @@
 use Rattle.node_state.proofs.Broken.{on_err, partly_none}
 use Rattle.node_state.proofs.Stopped.{deliver_grows}
-use Rattle.node_core.proofs.Marking.{row_part, row_marked}
+use Rattle.node_replica.proofs.Marking.{row_part, row_marked}
 use Rattle.node_core.proofs.passes.deliver_due.Goals as goal
 
 pub returns-in_ok-marks_place-in-Delivering-clause-row : goal.returns-in_ok-marks_place-in-Delivering-clause-row

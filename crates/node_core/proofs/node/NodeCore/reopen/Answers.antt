@@ -1,6 +1,6 @@
 use Rattle.std.proofs.Common.{subst, ◌≡◌, Option, None, List, ℕ}
 use Rattle.node_rules.specs.Reopening.{replica_from, outset_from}
-use Rattle.node_core.proofs.Resuming.{begun_parts, some_parts, read_parts, fault_parts, whole_parts, damaged_parts, damaged_first, node_parts, same_fault}
+use Rattle.node_core.proofs.Reopeners.{begun_parts, some_parts, read_parts, fault_parts, whole_parts, damaged_parts, damaged_first, node_parts, same_fault}
 use Rattle.node_core.proofs.node.NodeCore.reopen.Goals as goal
 
 pub finish-requires : goal.finish-requires

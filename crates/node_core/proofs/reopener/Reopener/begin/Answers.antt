@@ -1,6 +1,6 @@
 use Rattle.std.proofs.Common.{refl, ap, None, Some}
 use Rattle.smart_service.specs.declared.replica.Replica.{Replica}
-use Rattle.node_core.proofs.Resuming.{after_none, at_place, none_sound}
+use Rattle.node_core.proofs.Reopeners.{after_none, at_place, none_sound}
 use Rattle.node_core.proofs.reopener.Reopener.begin.Goals as goal
 
 pub returns-clause-begun : goal.returns-clause-begun

@@ -1,6 +1,6 @@
 use Rattle.std.proofs.Common.{List, ℕ, subst}
 use Rattle.node_core.specs.Reopeners.{IsAfter}
-use Rattle.node_core.proofs.Resuming.{after_next, damaged_next, take_past, same_fault}
+use Rattle.node_core.proofs.Reopeners.{after_next, damaged_next, take_past, same_fault}
 use Rattle.node_core.proofs.reopener.Reopener.read_all.Goals as goal
 
 pub loop-bytes-preserved : goal.loop-bytes-preserved

@@ -1,6 +1,0 @@
-use Rattle.std.proofs.Common.{◌∙◌}
-use Rattle.node_core.proofs.Answering.{counted}
-use Rattle.node_core.proofs.answers.count_past.Goals as goal
-
-pub returns : goal.returns
-returns c = c.count_made.ensures ∙ counted c.args.place c.args.entries.now
