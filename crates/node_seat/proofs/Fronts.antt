@@ -1,19 +1,14 @@
 -- Fronts of lists, and the text of a trail with one more event.
-use Rattle.std.proofs.Common.{◌≡◌, ℕ, zero, suc, ◌+◌, ◌-◌, List, [], ◌∷◌, ◌++◌, length, take, drop, Option, Some, None, refl, sym, ap, ◌∙◌, arith, append_assoc, append-nil, length-append}
+use Rattle.std.proofs.Common.{◌≡◌, ℕ, zero, suc, ◌+◌, ◌-◌, List, [], ◌∷◌, ◌++◌, length, take, Option, Some, None, refl, sym, ap, ◌∙◌, arith, append_assoc, append-nil, length-append}
 use Rattle.std.proofs.Math.Seq.{take-append-add, take-append_seam, take-length}
 use Rattle.std.specs.List.{flat_map}
 use Rattle.std.specs.Io.KnownBytes.{Appends}
-use Rattle.trail.specs.Events.{event_text, event_content}
+use Rattle.trail.specs.Events.{event_text}
 use Rattle.trail.specs.Openings.{opening_text}
 use Rattle.trail.specs.Trails.{part, events_text, trail_text}
 use Rattle.trail.specs.declared.event.TrailEvent.{TrailEvent}
 use Rattle.trail.specs.declared.opening.TrailOpening.{TrailOpening}
 use Rattle.node_seat.specs.Seats.{IsFirst, HasWrittenFirst}
-
--- the bytes of an event behind the first
-pub behind_kind : (e : TrailEvent) → drop 1 (event_text e) ≡ event_content e
-unfolding event_text
-behind_kind e = refl
 
 pub text-more : (head : TrailOpening) (entries : List (List ℕ)) (events : List TrailEvent) (e : TrailEvent)
     → trail_text head entries (events ++ e ∷ []) ≡ trail_text head entries events ++ part (event_text e)

@@ -1,19 +1,25 @@
 -- What the links and the trail of a seat keep.
-use Rattle.std.proofs.Common.{◌≡◌, ℕ, ◌-◌, Bool, false, List, [], ◌++◌, length, map, take, Option, Some, None}
+use Rattle.std.proofs.Common.{◌≡◌, ℕ, ◌-◌, Bool, false, List, [], ◌++◌, length, map, take, Option, Some, None, option_map}
 use Rattle.std.proofs.Props.{props}
 use Rattle.std.specs.Io.KnownBytes.{Appends}
+use Rattle.smart_service.specs.Services.{Meaning}
 use Rattle.smart_statements.specs.declared.entry.NodeEvent.{NodeEvent}
 use Rattle.smart_statements.specs.declared.entry.NodeEvent.TheVariants.{Arrive, Tick, Deliver, Firm}
+use Rattle.snapshot_form.specs.Snapshots.{restored}
 use Rattle.trail.specs.Events.{addressed_text}
 use Rattle.trail.specs.declared.event.TrailEvent.{TrailEvent}
 use Rattle.trail.specs.declared.opening.App.TheVariants.{Count}
 use Rattle.trail.specs.declared.opening.TrailOpening.{TrailOpening}
 use Rattle.trail_rules.specs.Replays.{sends}
-use Rattle.node_seat.specs.Lives.{no_view}
+use Rattle.node_played.specs.Lives.{no_view}
 
 -- the head of a trail of nobody
 abbrev pub no_head : TrailOpening
 no_head = record { member = 0; period = 0; view = no_view; app = Count; secret = []; snapshot = []; entries = 0 }
+
+-- the place of the replica whose snapshot bytes are, if they are a replica's
+abbrev pub place_in : {S : Type 0} → Meaning S → List ℕ → Option ℕ
+place_in m bytes = option_map (λ r. r.place) (restored m bytes)
 
 -- the payloads of the frames that a trail's Sends are
 abbrev pub payloads : List TrailEvent → List (List ℕ)

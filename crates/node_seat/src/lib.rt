@@ -2,11 +2,8 @@
 //! lane and of the links, which threads share under one lock.
 #![tactic(auto)]
 
-pub mod life;
 pub mod place;
-pub mod played;
 pub mod seat;
 pub mod snapshot;
-mod texts;
 pub mod turns;
 pub mod writing;

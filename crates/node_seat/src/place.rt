@@ -1,5 +1,5 @@
 //! Which links a seat has, and with what its trail begins, as names that a type bears.
-use crate::life::Life;
+use node_played::life::Life;
 use smart_service::service::Service;
 use std::marker::Brand;
 

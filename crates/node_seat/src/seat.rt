@@ -8,12 +8,12 @@ ghost use Rattle.trail_rules.specs.Replays.{arrivals};
 ghost use Rattle.node_seat.specs.Seats.{payloads, IsFirst, HasWrittenFirst, whole_prop, first_prop};
 
 use crate::place::Place;
-use crate::played::{Happened, Played, SeatEnd, Sent};
 use crate::snapshot::Snapshot;
 use crate::writing::{put_on, write_part};
 use group_links::inward::LinkIn;
 use group_links::outward::LinkOut;
 use node_core::node::Outcome;
+use node_played::played::{Happened, Played, SeatEnd, Sent};
 use smart_base::sequence::Bytes;
 use smart_io::stream::Sink;
 use smart_service::service::Service;
@@ -92,7 +92,7 @@ impl<S: Service, P: Place<S>, O: Sink> Seat<S, P, O> {
     ghost use Rattle.trail.specs.declared.event.TrailEvent.TheVariants.{Happens, Send, End};
     ghost use Rattle.trail_rules.specs.Replays.{core_steps, replay, arrivals};
     ghost use Rattle.smart_statements.specs.declared.entry.NodeEvent.TheVariants.{Arrive};
-    ghost use Rattle.node_seat.specs.Lives.{IsRead};
+    ghost use Rattle.node_played.specs.Lives.{IsRead};
     ghost use Rattle.node_seat.specs.Seats.{IsOwn, IsFirst, HasWrittenFirst, payloads};
 
     /// A seat over a core at its opening, a link from which nothing was taken, one on which nothing was

@@ -1,6 +1,6 @@
 //! A snapshot that is handed over between workers.
 ghost use Rattle.std.specs.Prelude.{◌≡◌, ◌<◌, ◌^◌, length, Some, IfOk, IfSome};
-ghost use Rattle.node_seat.specs.Lives.{place_in};
+ghost use Rattle.node_seat.specs.Seats.{place_in};
 
 use smart_base::sequence::Bytes;
 use smart_service::fault::RestoreError;
@@ -45,7 +45,7 @@ fn place_in<S: Service>(alloc: Global, bytes: &[u8]) -> Result<Option<u64>, Allo
 
 impl<S: Service> Snapshot<S> {
     ghost use Rattle.std.specs.Prelude.{◌≡◌, ◌<◌, ◌^◌, length, Some, IfOk, IfSome};
-    ghost use Rattle.node_seat.specs.Lives.{place_in};
+    ghost use Rattle.node_seat.specs.Seats.{place_in};
 
     /// Bytes as those of a replica of this place. It takes no memory.
     pub fn of(place: u64, bytes: Bytes) -> Snapshot<S>

@@ -22,7 +22,7 @@ pub enum Turn {
 impl<S: Service, P: Place<S>, O: Sink> Seat<S, P, O> {
     ghost use Rattle.std.specs.Prelude.{◌≡◌, ◌≤◌, false};
     ghost use Rattle.log_lane.specs.Lane.{lane_read, lane_room};
-    ghost use Rattle.node_seat.specs.Lives.{IsRead};
+    ghost use Rattle.node_played.specs.Lives.{IsRead};
     ghost use Rattle.node_seat.specs.Seats.{IsOwn};
 
     /// Plays an event that is no arrival.

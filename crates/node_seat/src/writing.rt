@@ -5,10 +5,10 @@ ghost use Rattle.faults.specs.Counts.{Rose};
 ghost use Rattle.group_links.specs.Link.{link_put, in_link};
 ghost use Rattle.trail.specs.Trails.{part};
 
-use crate::played::SeatEnd;
 use faults::Fault;
 use frame_stream::writing::write_frame;
 use group_links::inward::{LinkIn, Sending};
+use node_played::played::SeatEnd;
 use smart_base::sequence::Bytes;
 use smart_io::stream::Sink;
 use std::sync::Wait;

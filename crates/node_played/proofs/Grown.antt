@@ -1,4 +1,4 @@
--- What one more event of a trail keeps of a seat's facts.
+-- What one more event of a trail keeps of what a core keeps with its trail.
 use Rattle.std.proofs.Common.{◌≡◌, ℕ, ◌≤◌, ◌+◌, max, List, [], ◌∷◌, ◌++◌, length, map, drop, Some, refl, sym, ap, subst, ◌∙◌, arith, length-append}
 use Rattle.std.proofs.lemmas.List.{drop-append-le, map-append, length-map}
 use Rattle.std.proofs.Math.Seq.{drop-append_seam}
@@ -19,7 +19,7 @@ use Rattle.trail.specs.declared.event.TrailEvent.{TrailEvent}
 use Rattle.trail.specs.declared.event.TrailEvent.TheVariants.{Happens, Send, End}
 use Rattle.trail_rules.specs.Replays.{core_steps, one_left, after, replay, IsRelease, MayCome, Released, need_of, needed}
 use Rattle.trail_rules.proofs.Grows.{replay-more, released-more, needed-more, need-firm}
-use Rattle.node_seat.specs.Lives.{made_texts, IsRead}
+use Rattle.node_played.specs.Lives.{made_texts, IsRead}
 
 -- ---- what a step keeps
 

@@ -1,11 +1,10 @@
--- What the seat of a running node keeps.
-use Rattle.std.proofs.Common.{◌≡◌, ℕ, ◌≤◌, List, [], ◌∷◌, map, drop, Option, Some, None, option_map}
+-- What a core keeps with its trail and its lane.
+use Rattle.std.proofs.Common.{◌≡◌, ℕ, ◌≤◌, List, [], ◌∷◌, map, drop, Option, Some, None}
 use Rattle.std.proofs.Props.{props}
 use Rattle.smart_statements.specs.declared.entry.NodeEvent.{NodeEvent}
 use Rattle.smart_statements.specs.declared.entry.NodeEvent.TheVariants.{Arrive, Tick, Deliver, Firm}
 use Rattle.smart_base.specs.Views.{View}
 use Rattle.smart_service.specs.Services.{Meaning}
-use Rattle.snapshot_form.specs.Snapshots.{restored}
 use Rattle.vote_book.specs.Entries.{entry_text}
 use Rattle.vote_book.specs.declared.entry.LogEntry.{LogEntry}
 use Rattle.node_rules.specs.Nodes.{Node}
@@ -36,10 +35,6 @@ IsRead read (Arrive bytes) = Unit {0}
 IsRead read Tick = Unit {0}
 IsRead read Deliver = Unit {0}
 IsRead read (Firm count) = count ≤ read
-
--- the place of the replica whose snapshot bytes are, if they are a replica's
-abbrev pub place_in : {S : Type 0} → Meaning S → List ℕ → Option ℕ
-place_in m bytes = option_map (λ r. r.place) (restored m bytes)
 
 -- A tail that a log has beside a checkpoint of a place, after some events from this opening.
 abbrev pub IsTailOf : {S : Type 0} → Meaning S → Node S → ℕ → Tail → Type 0

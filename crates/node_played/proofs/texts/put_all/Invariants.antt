@@ -1,6 +1,6 @@
 use Rattle.std.proofs.Common.{◌≡◌, ◌≤◌, ◌++◌, length}
 use Rattle.log_lane.specs.Lane.{lane_put, lane_read, lane_capacity, lane_room, in_lane}
-use Rattle.node_seat.proofs.texts.put_all.Given as goal
+use Rattle.node_played.proofs.texts.put_all.Given as goal
 
 -- what is put and what is left are all
 abbrev pub invariant-loop-text : goal.invariant-loop-text

@@ -3,9 +3,9 @@ use Rattle.log_lane.specs.Lane.{lane_read}
 use Rattle.node_rules.specs.Nodes.{Node}
 use Rattle.trail.specs.declared.event.TrailEvent.{TrailEvent}
 use Rattle.trail.specs.declared.event.TrailEvent.TheVariants.{End}
-use Rattle.node_seat.proofs.Grown.{replayed_end, needed_end, released_end}
-use Rattle.node_seat.specs.Lives.{made_texts}
-use Rattle.node_seat.proofs.played.Played.end.Goals as goal
+use Rattle.node_played.proofs.Grown.{replayed_end, needed_end, released_end}
+use Rattle.node_played.specs.Lives.{made_texts}
+use Rattle.node_played.proofs.played.Played.end.Goals as goal
 
 pub invariant_of-self-2 : goal.invariant_of-self-2
 invariant_of-self-2 g c =

@@ -3,9 +3,9 @@ use Rattle.log_lane.specs.Lane.{lane_put, lane_read}
 use Rattle.trail.specs.declared.event.Addressed.{Addressed}
 use Rattle.trail.specs.declared.event.TrailEvent.{TrailEvent}
 use Rattle.trail.specs.declared.event.TrailEvent.TheVariants.{Send}
-use Rattle.node_seat.proofs.Grown.{kept_on, same_on, needs_on, released_on, releases}
-use Rattle.node_seat.specs.Lives.{made_texts}
-use Rattle.node_seat.proofs.played.Played.send.Goals as goal
+use Rattle.node_played.proofs.Grown.{kept_on, same_on, needs_on, released_on, releases}
+use Rattle.node_played.specs.Lives.{made_texts}
+use Rattle.node_played.proofs.played.Played.send.Goals as goal
 
 pub invariant_of-self-2 : goal.invariant_of-self-2
 invariant_of-self-2 g c =

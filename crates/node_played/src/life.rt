@@ -11,7 +11,7 @@ pub trait Life<S>: Home {
 }
 
 impl<S: Service> Life<S> for Brand {
-    ghost use Rattle.node_seat.specs.Lives.{nobody};
+    ghost use Rattle.node_played.specs.Lives.{nobody};
 
     ghost opening = { nobody S.meaning };
 }

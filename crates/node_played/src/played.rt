@@ -4,7 +4,7 @@ ghost use Rattle.log_lane.specs.Lane.{lane_put, lane_read, in_lane};
 ghost use Rattle.node_rules.specs.Nodes.{Node};
 ghost use Rattle.trail.specs.Events.{event_text, event_content};
 ghost use Rattle.trail_rules.specs.Replays.{core_steps, replay, needed, Released};
-ghost use Rattle.node_seat.specs.Lives.{made_texts, released_prop};
+ghost use Rattle.node_played.specs.Lives.{made_texts, released_prop};
 
 use crate::life::Life;
 use crate::texts::{put_all, texts_behind};
@@ -48,7 +48,7 @@ pub struct Sent {
 
 /// The bytes of an event, fewer than 2^32, and those behind the first: of a Send they are the payload of
 /// its frame. Error: want of memory, also for an event with more.
-#[tactic(auto, using(crate::proofs::Fronts::behind_kind))]
+#[tactic(auto, using(crate::proofs::Payloads::behind_kind))]
 fn sent_text(alloc: Global, event: &TrailEvent) -> Result<Sent, AllocError>
     ensures text { IfOk result (λ sent. sent.text ≡ event_text event.now) }
     ensures payload { IfOk result (λ sent. sent.payload ≡ event_content event.now) }
@@ -128,7 +128,7 @@ impl<S: Service, P: Life<S>> Played<S, P> {
     ghost use Rattle.trail.specs.declared.event.TrailEvent.TheVariants.{Happens, Send, End};
     ghost use Rattle.trail_rules.specs.Replays.{core_steps, replay, needed, Released};
     ghost use Rattle.store_plan.specs.Fit.{AreEntries};
-    ghost use Rattle.node_seat.specs.Lives.{made_texts, IsRead, IsTailOf};
+    ghost use Rattle.node_played.specs.Lives.{made_texts, IsRead, IsTailOf};
 
     /// A core at its opening, with an unused lane that has room for its first entry. Error: want of
     /// memory.

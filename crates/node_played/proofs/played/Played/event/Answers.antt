@@ -2,8 +2,8 @@ use Rattle.std.proofs.Common.{◌+◌, ℕ, List, [], ◌∷◌, ◌++◌, ap, �
 use Rattle.log_lane.specs.Lane.{lane_put, lane_read}
 use Rattle.trail.specs.declared.event.TrailEvent.{TrailEvent}
 use Rattle.trail.specs.declared.event.TrailEvent.TheVariants.{Happens}
-use Rattle.node_seat.proofs.Grown.{kept_by, restored_by, few_by, put_by, firm_by, needs_by, released_by, texts_are, room_for}
-use Rattle.node_seat.proofs.played.Played.event.Goals as goal
+use Rattle.node_played.proofs.Grown.{kept_by, restored_by, few_by, put_by, firm_by, needs_by, released_by, texts_are, room_for}
+use Rattle.node_played.proofs.played.Played.event.Goals as goal
 
 pub invariant_of-self-2 : goal.invariant_of-self-2
 invariant_of-self-2 g c =
