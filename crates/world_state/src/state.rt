@@ -1,10 +1,11 @@
 //! A world: its hosts and clients, and the messages that leave them.
-ghost use Rattle.std.specs.Prelude.{◌≡◌, ℕ, [], ◌∷◌, IfOk, OnOk, Some, map, if◌then◌else◌};
+ghost use Rattle.std.specs.Prelude.{◌≡◌, ◌<◌, ℕ, [], ◌∷◌, IfOk, OnOk, Some, length, slice_get, map, if◌then◌else◌};
 ghost use Rattle.smart_base.specs.Lists.{or_else};
+ghost use Rattle.node_rules.specs.Nodes.{view_of};
 ghost use Rattle.node_rules.specs.Steps.{opened};
 ghost use Rattle.world_rules.specs.Secrets.{group_secret};
 ghost use Rattle.world_rules.specs.Premises.{is_among};
-ghost use Rattle.world_rules.specs.Worlds.{telling, posts, meets, is_gone, is_rogue, is_up, heard_by, sends, sends_all, host_of_node, hosts_from, outset_of, clients_from, begun, is_halted};
+ghost use Rattle.world_rules.specs.Worlds.{Host, telling, posts, meets, is_gone, is_rogue, is_up, heard_by, sends, sends_all, host_of_node, hosts_from, outset_of, clients_from, begun, is_halted};
 ghost use Rattle.world_rules.specs.Plays.{rested};
 
 use client_quorum::client::{Acceptance, Client};
@@ -347,6 +348,54 @@ impl<S: Service> WorldState<S> {
             self.send_held(id, view, message)?;
         }
         Ok(())
+    }
+
+    /// The view of the node at an index. Error: want of memory.
+    fn view_at(&self, i: usize) -> Result<View, AllocError>
+        requires { i < length self.now.hosts }
+        ensures { (h : Host S) → slice_get self.now.hosts i ≡ Some h → IfOk result (λ view. view ≡ view_of h.node) }
+    {
+        self.hosts()[i].view().duplicate(self.alloc)
+    }
+
+    /// Sends what a step of the node at an index lets go, in order. Most steps let nothing go, and want no
+    /// copy of the view. Error: want of memory.
+    fn send_left(&mut self, id: MemberId, i: usize, held: Sequence<Held>) -> Result<(), AllocError>
+        requires { i < length self.old.hosts }
+        ensures { (h : Host S) → slice_get self.old.hosts i ≡ Some h → OnOk result (self.new ≡ sends_all id (view_of h.node) self.old held) }
+    {
+        if held.is_empty() {
+            let_go(held);
+            return Ok(());
+        }
+        match self.view_at(i) {
+            Ok(view) => self.send_all(id, &view, held),
+            Err(error) => {
+                let_go(held);
+                Err(error)
+            }
+        }
+    }
+
+    /// Meets the snapshots that a step of the node at an index marked. Then sends what the step lets go,
+    /// in order. Error: want of memory.
+    pub fn leave(
+        &mut self,
+        id: MemberId,
+        i: usize,
+        marked: Vec<Bytes>,
+        held: Sequence<Held>,
+    ) -> Result<(), AllocError>
+        requires { i < length self.old.hosts }
+        ensures { (h : Host S) → slice_get self.old.hosts i ≡ Some h → OnOk result (self.new ≡ sends_all id (view_of h.node) (meets self.old marked.items) held) }
+    {
+        match self.meet_all(marked) {
+            Ok(()) => self.send_left(id, i, held),
+            Err(error) => {
+                let_go(held);
+                Err(error)
+            }
+        }
     }
 
     // What a play shows.
