@@ -1,5 +1,5 @@
 //! A core with the trail whose replay it is, and the lane that has its entries.
-ghost use Rattle.std.specs.Prelude.{◌≡◌, ◌≤◌, ◌<◌, ◌^◌, ◌+◌, false, length, IfOk};
+ghost use Rattle.std.specs.Prelude.{◌≡◌, ◌≤◌, ◌<◌, ◌^◌, ◌+◌, ◌++◌, ◌∷◌, [], false, length, vec_len, vec_capacity, IfOk};
 ghost use Rattle.log_lane.specs.Lane.{lane_put, lane_read, in_lane};
 ghost use Rattle.node_rules.specs.Nodes.{Node};
 ghost use Rattle.trail.specs.Events.{event_text, event_content};
@@ -73,6 +73,14 @@ fn addressed_of(held: Held) -> Addressed
     Addressed { to, message }
 }
 
+/// Puts an event behind a trail that has room for it.
+fn note(trail: &mut Vec<TrailEvent>, event: TrailEvent)
+    requires { vec_len trail.old < vec_capacity trail.old }
+    ensures { trail.new.items ≡ trail.old.items ++ event ∷ [] }
+{
+    trail.push_reserved(event);
+}
+
 /// The bytes of an event, fewer than 2^32. Error: want of memory, also for an event with more.
 fn short_text(alloc: Global, event: &TrailEvent) -> Result<Bytes, AllocError>
     ensures text { IfOk result (λ text. text ≡ event_text event.now) }
@@ -119,7 +127,7 @@ impl<S: Service, P: Life<S>> Drop for Played<S, P> {
 }
 
 impl<S: Service, P: Life<S>> Played<S, P> {
-    ghost use Rattle.std.specs.Prelude.{◌≡◌, ◌≤◌, ◌<◌, ◌^◌, ◌+◌, ◌++◌, ◌∷◌, [], false, true, length, None, is_some, IfOk, IfSome, OnOk, OnErr, IsErrOf, IsTrue, MatchOption};
+    ghost use Rattle.std.specs.Prelude.{◌≡◌, ◌≤◌, ◌<◌, ◌^◌, ◌+◌, ◌-◌, ◌++◌, ◌∷◌, [], false, true, length, None, is_some, IfOk, IfSome, OnOk, OnErr, IsErrOf, IsTrue, MatchOption};
     ghost use Rattle.log_lane.specs.Lane.{lane_put, lane_read, lane_room, in_lane};
     ghost use Rattle.node_rules.specs.Kept.{core_step};
     ghost use Rattle.node_rules.specs.Steps.{first_leaving};
@@ -203,7 +211,10 @@ impl<S: Service, P: Life<S>> Played<S, P> {
     }
 
     /// Whether the lane tells more firm entries than the core knows.
-    pub fn is_told_more(&self, read: u64) -> bool {
+    pub fn is_told_more(&self, read: u64) -> bool
+        ensures more { self.now.stuck ≡ false → IsTrue result → (replay (core_steps S.meaning) P.opening self.now.trail.items).firm - P.restored < read }
+        ensures known { self.now.stuck ≡ false → result ≡ false → read ≤ (replay (core_steps S.meaning) P.opening self.now.trail.items).firm - P.restored }
+    {
         self.core.firm() - self.core.restored().min(self.core.firm()) < read
     }
 
@@ -260,7 +271,7 @@ impl<S: Service, P: Life<S>> Played<S, P> {
             return Err(SeatEnd::NoMemory);
         };
         put_all(rt, &mut self.lane, texts);
-        self.trail.push_reserved(played);
+        note(&mut self.trail, played);
         self.stuck = false;
         Ok(Happened { outcome, text })
     }
@@ -290,7 +301,7 @@ impl<S: Service, P: Life<S>> Played<S, P> {
         let Ok(sent) = sent_text(self.alloc, &event) else {
             return Err(SeatEnd::NoMemory);
         };
-        self.trail.push_reserved(event);
+        note(&mut self.trail, event);
         self.stuck = false;
         Ok(Some(sent))
     }
@@ -310,7 +321,7 @@ impl<S: Service, P: Life<S>> Played<S, P> {
         let Ok(text) = short_text(self.alloc, &event) else {
             return Err(SeatEnd::NoMemory);
         };
-        self.trail.push_reserved(event);
+        note(&mut self.trail, event);
         Ok(text)
     }
 
