@@ -23,7 +23,7 @@ use world_state::state::WorldState;
 fn has_member<S: Service>(world: &WorldState<S>, member: MemberId) -> bool
     ensures { result ≡ has_member world.now member }
 {
-    host_index(world.hosts.as_slice(), member).is_some()
+    host_index(world.hosts(), member).is_some()
 }
 
 fn has_members<S: Service>(world: &WorldState<S>, members: &[MemberId]) -> bool
@@ -67,7 +67,7 @@ pub fn is_there<S: Service>(world: &WorldState<S>, line: &Line) -> bool
         }
         Line::Give { number, to } => {
             1 <= *number
-                && *number <= world.sent.as_slice().len() as u64
+                && *number <= world.sent().len() as u64
                 && has_parties(world, to.as_slice())
         }
         Line::Disk { member, .. }
@@ -75,7 +75,7 @@ pub fn is_there<S: Service>(world: &WorldState<S>, line: &Line) -> bool
         | Line::Restart { member }
         | Line::Settle { member }
         | Line::Faulty { member } => has_member(world, *member),
-        Line::Inject(form) => is_injectable(world.sent.as_slice(), form),
+        Line::Inject(form) => is_injectable(world.sent(), form),
     }
 }
 

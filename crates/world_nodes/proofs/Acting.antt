@@ -6,9 +6,13 @@ use Rattle.smart_statements.specs.declared.entry.NodeEvent.{NodeEvent}
 use Rattle.smart_statements.specs.declared.entry.NodeEvent.TheVariants.{Deliver}
 use Rattle.store_laws.specs.States.{is_due}
 use Rattle.store_laws.specs.Stops.{is_installed}
-use Rattle.world_rules.specs.Worlds.{Course, Host, World, is_up, is_gone, takes_due, calls_disk, node_takes, settle_once, takes_met, host_calls, host_takes, hears_firm, disk_called, is_halted}
+use Rattle.world_rules.specs.Crashes.{images_left, wrong_images}
+use Rattle.world_rules.specs.declared.crash.Image.{Image}
+use Rattle.world_rules.specs.declared.crash.Patch.{Patch}
+use Rattle.world_rules.specs.Worlds.{Course, Host, World, is_up, is_gone, takes_due, calls_disk, node_takes, settle_once, takes_met, host_calls, host_takes, host_crashes, host_tries, crashes, crashes_with, tries_at, stepped, told_idle, telling_all, hears_firm, disk_called, is_halted}
 use Rattle.world_nodes.specs.Acting.{acts}
-use Rattle.world_nodes.specs.Crashes.{runs}
+use Rattle.world_nodes.specs.Crashes.{runs, stops}
+use Rattle.world_nodes.specs.Idling.{takes_at, tries}
 
 first : (a b : Bool) → (a && b) ≡ true → a ≡ true
 first true b both = refl
@@ -93,3 +97,87 @@ pub due_none : {S : Type 0} (course : Course S) (i : ℕ) (w : World S) (h : Hos
     → due ≡ (h.up && is_due is_installed h.store) → due ≡ false → waits ≡ is_some h.node.waiting → waits ≡ false → w ≡ takes_due course i w (slice_get w.hosts i)
 due_none course i w h due waits there up due_is fails waits_is none =
     sym (without_call course i w h due waits there up due_is fails waits_is ∙ ap (λ b. cond b (node_takes course i Deliver w) w) none)
+
+goes_up : {A : Type 0} (over up : Bool) (x w : A) → (not over && up) ≡ true → x ≡ cond over w (cond up x w)
+goes_up true up x w holds = cc
+goes_up false true x w holds = refl
+goes_up false false x w holds = cc
+
+goes_not : {A : Type 0} (over up : Bool) (x w : A) → (not over && up) ≡ true → x ≡ cond over w (cond (not up) w x)
+goes_not true up x w holds = cc
+goes_not false true x w holds = refl
+goes_not false false x w holds = cc
+
+rests_up : {A : Type 0} (over up : Bool) (x w : A) → (not over && up) ≡ false → w ≡ cond over w (cond up x w)
+rests_up true up x w fails = refl
+rests_up false true x w fails = cc
+rests_up false false x w fails = refl
+
+same_both : {A : Type 0} (b : Bool) (w : A) → w ≡ cond b w w
+same_both true w = refl
+same_both false w = refl
+
+stops_on : {S : Type 0} (course : Course S) (image : Image) (patches : List Patch) (i : ℕ) (w : World S) (found : Option (Host S)) → acts w found ≡ true
+    → stops course image patches i w found ≡ cond (is_halted w) w (host_crashes course image patches i w found)
+stops_on course image patches i w None holds = cc
+stops_on course image patches i w (Some h) holds =
+    goes_up (is_halted w) (is_up w h) (crashes_with course i w h (images_left image patches h.store) (wrong_images h.store (images_left image patches h.store))) w holds
+
+-- a node that runs crashes
+pub crashes_on : {S : Type 0} (course : Course S) (image : Image) (patches : List Patch) (i : ℕ) (w : World S) → acts w (slice_get w.hosts i) ≡ true
+    → stops course image patches i w (slice_get w.hosts i) ≡ crashes course image patches i w
+unfolding crashes
+crashes_on course image patches i w holds = stops_on course image patches i w (slice_get w.hosts i) holds
+
+stays_on : {S : Type 0} (course : Course S) (image : Image) (patches : List Patch) (i : ℕ) (w : World S) (found : Option (Host S)) → acts w found ≡ false
+    → w ≡ cond (is_halted w) w (host_crashes course image patches i w found)
+stays_on course image patches i w None fails = same_both (is_halted w) w
+stays_on course image patches i w (Some h) fails =
+    rests_up (is_halted w) (is_up w h) (crashes_with course i w h (images_left image patches h.store) (wrong_images h.store (images_left image patches h.store))) w fails
+
+-- and no other does
+pub crashes_none : {S : Type 0} (course : Course S) (image : Image) (patches : List Patch) (i : ℕ) (w : World S) → acts w (slice_get w.hosts i) ≡ false → w ≡ crashes course image patches i w
+unfolding crashes
+crashes_none course image patches i w fails = stays_on course image patches i w (slice_get w.hosts i) fails
+
+event_on : {S : Type 0} (course : Course S) (i : ℕ) (event : NodeEvent) (w : World S) (found : Option (Host S)) → acts w found ≡ true
+    → takes_at course i event w found ≡ cond (is_halted w) w (host_takes course i event w found)
+event_on course i event w None holds = cc
+event_on course i event w (Some h) holds = goes_not (is_halted w) (is_up w h) (takes_met course i event w h) w holds
+
+-- a node that runs takes an event
+pub takes_on : {S : Type 0} (course : Course S) (i : ℕ) (event : NodeEvent) (w : World S) → acts w (slice_get w.hosts i) ≡ true
+    → takes_at course i event w (slice_get w.hosts i) ≡ node_takes course i event w
+unfolding node_takes
+takes_on course i event w holds = event_on course i event w (slice_get w.hosts i) holds
+
+event_off : {S : Type 0} (course : Course S) (i : ℕ) (event : NodeEvent) (w : World S) (found : Option (Host S)) → acts w found ≡ false → w ≡ cond (is_halted w) w (host_takes course i event w found)
+event_off course i event w None fails = same_both (is_halted w) w
+event_off course i event w (Some h) fails = sym (kept (is_halted w) (is_up w h) (takes_met course i event w h) w fails)
+
+-- and no other does
+pub takes_none : {S : Type 0} (course : Course S) (i : ℕ) (event : NodeEvent) (w : World S) → acts w (slice_get w.hosts i) ≡ false → w ≡ node_takes course i event w
+unfolding node_takes
+takes_none course i event w fails = event_off course i event w (slice_get w.hosts i) fails
+
+try_on : {S : Type 0} (course : Course S) (i : ℕ) (event : NodeEvent) (w : World S) (found : Option (Host S)) → acts w found ≡ true
+    → tries course i event w found ≡ cond (is_halted w) w (host_tries course event i w found)
+try_on course i event w None holds = cc
+try_on course i event w (Some h) holds =
+    goes_not (is_halted w) (is_up w h) (telling_all (stepped course w i h (course.step h.node event)) (told_idle h.node.id (course.step h.node event).fired)) w holds
+
+-- a node that runs tries an event
+pub tries_on : {S : Type 0} (course : Course S) (i : ℕ) (event : NodeEvent) (w : World S) → acts w (slice_get w.hosts i) ≡ true
+    → tries course i event w (slice_get w.hosts i) ≡ tries_at course event i w
+unfolding tries_at
+tries_on course i event w holds = try_on course i event w (slice_get w.hosts i) holds
+
+try_off : {S : Type 0} (course : Course S) (i : ℕ) (event : NodeEvent) (w : World S) (found : Option (Host S)) → acts w found ≡ false → w ≡ cond (is_halted w) w (host_tries course event i w found)
+try_off course i event w None fails = same_both (is_halted w) w
+try_off course i event w (Some h) fails =
+    sym (kept (is_halted w) (is_up w h) (telling_all (stepped course w i h (course.step h.node event)) (told_idle h.node.id (course.step h.node event).fired)) w fails)
+
+-- and no other does
+pub tries_none : {S : Type 0} (course : Course S) (i : ℕ) (event : NodeEvent) (w : World S) → acts w (slice_get w.hosts i) ≡ false → w ≡ tries_at course event i w
+unfolding tries_at
+tries_none course i event w fails = try_off course i event w (slice_get w.hosts i) fails

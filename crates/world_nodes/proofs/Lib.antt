@@ -7,3 +7,4 @@ pub mod Acting
 pub mod Running
 pub mod Stepping
 pub mod Meeting
+pub mod Hosts

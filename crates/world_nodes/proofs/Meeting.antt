@@ -6,18 +6,10 @@ use Rattle.node_rules.specs.Transfers.{completed_by}
 use Rattle.world_rules.specs.Worlds.{Course, Host, World, is_halted, meets, stepped}
 use Rattle.world_nodes.specs.Idling.{steps, met_at, takes_at}
 
--- what stands at an index is put there
-set_same : {A : Type 0} (xs : List A) (i : ℕ) (a : A) → slice_get xs i ≡ Some a → slice_set xs i a ≡ xs
-set_same [] i a there = refl
-set_same {A = A} (x ∷ xs) zero a there = let same : a ≡ x = cc in ap (λ (y : A). y ∷ xs) same
-set_same {A = A} (x ∷ xs) (suc i) a there = ap (λ (ys : List A). x ∷ ys) (set_same xs i a there)
-
 -- the text is met, and the node stays
-pub met_by : {S : Type 0} (i : ℕ) (event : NodeEvent) (w x w' : World S) (h h' : Host S) (texts : List (List ℕ)) → slice_get w.hosts i ≡ Some h → h' ≡ h
-    → x ≡ record w { hosts = slice_set w.hosts i h' } → texts ≡ completed_by h.node event → w' ≡ meets x texts → w' ≡ met_at event w (slice_get w.hosts i)
-met_by {S = S} i event w x w' h h' texts there same x_is texts_are is =
-    let still : x ≡ w = x_is ∙ (ap (λ (k : Host S). record w { hosts = slice_set w.hosts i k }) same ∙ ap (λ (hs : List (Host S)). record w { hosts = hs }) (set_same w.hosts i h there)) in
-    is ∙ (ap (λ (v : World S). meets v texts) still ∙ (ap (λ (ts : List (List ℕ)). meets w ts) texts_are ∙ sym (ap (λ (found : Option (Host S)). met_at event w found) there)))
+pub met_by : {S : Type 0} (i : ℕ) (event : NodeEvent) (w x w' : World S) (h : Host S) (texts : List (List ℕ)) → slice_get w.hosts i ≡ Some h → texts ≡ completed_by h.node event → x ≡ w → w' ≡ meets x texts
+    → w' ≡ met_at event w (slice_get w.hosts i)
+met_by i event w x w' h texts there texts_are x_is is = rw (is, x_is, texts_are, there) refl
 
 -- no host changes
 pub met_hosts : {S : Type 0} (event : NodeEvent) (w : World S) (found : Option (Host S)) → (met_at event w found).hosts ≡ w.hosts

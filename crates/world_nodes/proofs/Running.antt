@@ -16,11 +16,7 @@ pub up_at : {S : Type 0} (f : ℕ → World S → World S) (i : ℕ) (w : World 
 up_at f i w h there up = sym (ap (λ found. at_host f i w found) there ∙ by_up f i w h true up)
 
 -- a node that does not run is told to be absent
-pub absent_at : {S : Type 0} (f : ℕ → World S → World S) (i : ℕ) (w x : World S) (h g : Host S) (id : ℕ) → slice_get w.hosts i ≡ Some h → is_up w h ≡ false
-    → slice_get w.hosts i ≡ Some g → id ≡ g.node.id → x ≡ telling w (outs.Absent id) → at_index f x None ≡ at_host f i w (slice_get w.hosts i)
-absent_at {S = S} f i w x h g id there down there' id_is is =
-    is ∙ (ap (λ n. telling w (outs.Absent n)) (id_is ∙ ap (λ (k : Host S). k.node.id) (put (sym there' ∙ there)))
-    ∙ sym (ap (λ found. at_host f i w found) there ∙ by_up f i w h false down))
-  where
-    put : Some g ≡ Some h → g ≡ h
-    put same = cc
+pub absent_at : {S : Type 0} (f : ℕ → World S → World S) (i : ℕ) (w x : World S) (h : Host S) (id : ℕ) → slice_get w.hosts i ≡ Some h → is_up w h ≡ false → id ≡ h.node.id → x ≡ telling w (outs.Absent id)
+    → at_index f x None ≡ at_host f i w (slice_get w.hosts i)
+absent_at {S = S} f i w x h id there down id_is is =
+    is ∙ (ap (λ n. telling w (outs.Absent n)) id_is ∙ sym (ap (λ found. at_host f i w found) there ∙ by_up f i w h false down))

@@ -8,8 +8,9 @@ use Rattle.world_rules.specs.declared.crash.Patch.{Patch}
 use Rattle.world_rules.specs.declared.crash.NotAnImage as stores
 use Rattle.node_rules.specs.Reopening.{damage_of}
 use Rattle.world_rules.specs.Secrets.{group_secret}
-use Rattle.world_rules.specs.Worlds.{Course, core_course, Host, World, at_host, at_index, at_member, host_index, disk_called, parts_held, resumes_from}
+use Rattle.world_rules.specs.Worlds.{Course, core_course, Host, World, telling, at_host, at_index, at_member, host_index, disk_called, host_crashed, parts_held, resumes_from}
 use Rattle.world_rules.specs.declared.line.OutLine.{OutLine}
+use Rattle.world_rules.specs.declared.line.OutLine.TheVariants as outs
 use Rattle.world_rules.specs.declared.message.Ending.TheVariants.{Premise}
 use Rattle.world_rules.specs.declared.message.Premise.TheVariants.{NotAnImage}
 use Rattle.world_hosts.specs.Lives.{node_from, node_in, host_with, told_with}
@@ -17,7 +18,7 @@ use Rattle.world_nodes.specs.Crashes.{runs, stops, telling_if, goes_on}
 use Rattle.world_nodes.proofs.Calling.{get_set}
 
 -- what stands at an index may be put there
-set_same : {A : Type 0} (xs : List A) (i : ℕ) (a : A) → slice_get xs i ≡ Some a → slice_set xs i a ≡ xs
+pub set_same : {A : Type 0} (xs : List A) (i : ℕ) (a : A) → slice_get xs i ≡ Some a → slice_set xs i a ≡ xs
 set_same [] i a there = refl
 set_same {A = A} (x ∷ xs) zero a there = ap (λ (y : A). y ∷ xs) (put there)
   where
@@ -38,12 +39,16 @@ found_at member w x i (Err e) there all = tt
 found_at {S = S} member w x i (Ok found) there all =
     λ f. all f ∙ ap (λ (at : Option ℕ). at_index (λ j v. at_host f j v (slice_get v.hosts j)) w at) (sym there)
 
+-- a crash of a node
+pub stopped_at : {S : Type 0} (course : Course S) (image : Image) (patches : List Patch) (i : ℕ) (w x w' : World S) (h : Host S) (member : ℕ) → slice_get w.hosts i ≡ Some h → member ≡ h.node.id
+    → wrong_images h.store (images_left image patches h.store) ≡ None → x ≡ record w { hosts = slice_set w.hosts i (host_crashed course h (images_left image patches h.store)) }
+    → w' ≡ telling x (outs.Crashed member) → w' ≡ stops course image patches i w (slice_get w.hosts i)
+stopped_at course image patches i w x w' h member there member_is right x_is is = rw (is, x_is, member_is, there, right) refl
+
 -- what no crash leaves ends the play
-pub refused_at : {S : Type 0} (course : Course S) (image : Image) (patches : List Patch) (i : ℕ) (w w' : World S) (h h' : Host S) (fault : stores.NotAnImage) → slice_get w.hosts i ≡ Some h
-    → wrong_images h.store (images_left image patches h.store) ≡ Some fault → h' ≡ h
-    → w' ≡ record w { hosts = slice_set w.hosts i h'; ending = Some (Premise (NotAnImage fault)) } → w' ≡ stops course image patches i w (slice_get w.hosts i)
-refused_at {S = S} course image patches i w w' h h' fault there wrong host_is is =
-    rw (is, host_is, there, wrong) (ap (λ (hs : List (Host S)). record w { hosts = hs; ending = Some (Premise (NotAnImage fault)) }) (set_same w.hosts i h there))
+pub refused_at : {S : Type 0} (course : Course S) (image : Image) (patches : List Patch) (i : ℕ) (w x w' : World S) (h : Host S) (fault : stores.NotAnImage) → slice_get w.hosts i ≡ Some h
+    → wrong_images h.store (images_left image patches h.store) ≡ Some fault → x ≡ w → w' ≡ record x { ending = Some (Premise (NotAnImage fault)) } → w' ≡ stops course image patches i w (slice_get w.hosts i)
+refused_at course image patches i w x w' h fault there wrong x_is is = rw (is, x_is, there, wrong) refl
 
 -- a node goes on, by whether a part is damaged
 resumed : {S : Type 0} (m : Meaning S) (i : ℕ) (w : World S) (h : Host S) (damage : Option ℕ) → slice_get w.hosts i ≡ Some h

@@ -1,5 +1,5 @@
 -- Steps that are repeated, turn by turn.
-use Rattle.std.proofs.Common.{◌≡◌, ℕ, ◌+◌, ◌-◌, ◌<◌, ◌≤◌, zero, suc, refl, arith, ◌∙◌, ap}
+use Rattle.std.proofs.Common.{◌≡◌, ℕ, ◌+◌, ◌-◌, ◌<◌, ◌≤◌, zero, suc, refl, arith, ◌∙◌, ap, sym, List, length}
 use Rattle.world_rules.specs.Repeats.{repeated, turns, until_rest, each_from}
 
 counted : turns ≡ 18446744073709551615
@@ -48,6 +48,18 @@ each_none f i x = refl
 -- no number is left
 pub each_done : {A : Type 0} (f : ℕ → A → A) (k i j : ℕ) (x : A) → k ≤ i → each_from f (k - i) j x ≡ x
 each_done f k i j x le = let e : k - i ≡ 0 = omega arith in rw e (each_none f j x)
+
+-- all numbers are left at first
+pub each_begins : {A B : Type 0} (f : ℕ → A → A) (xs ys : List B) (x : A) → xs ≡ ys → each_from f (length xs - 0) 0 x ≡ each_from f (length ys) 0 x
+each_begins f xs ys x same = let e : length xs - 0 ≡ length ys = rw same (omega arith) in rw e refl
+
+-- one more was taken
+pub each_next : {A : Type 0} (f : ℕ → A → A) (k i : ℕ) (x y total : A) → i < k → each_from f (k - i) i x ≡ total → y ≡ f i x → each_from f (k - (i + 1)) (i + 1) y ≡ total
+each_next f k i x y total lt so_far one = ap (λ z. each_from f (k - (i + 1)) (i + 1) z) one ∙ (sym (each_more f k i x lt) ∙ so_far)
+
+-- all were taken
+pub each_ends : {A : Type 0} (f : ℕ → A → A) (k i : ℕ) (x total : A) → k ≤ i → each_from f (k - i) i x ≡ total → x ≡ total
+each_ends f k i x total le so_far = sym (each_done f k i i x le) ∙ so_far
 
 -- one more of some turns
 pub times_more : {A : Type 0} (f : A → A) (k i : ℕ) (x : A) → i < k → repeated f (k - i) x ≡ repeated f (k - (i + 1)) (f x)

@@ -1,9 +1,13 @@
 //! Members that crash, and restart from what their devices hold.
-ghost use Rattle.std.specs.Prelude.{◌≡◌, ◌<◌, [], true, length, slice_get, OnOk};
-ghost use Rattle.world_rules.specs.Worlds.{core_course, crashes, crash_all, at_member, resumes, restart_at, restart_all, restart_member};
+ghost use Rattle.std.specs.Prelude.{◌≡◌, ◌<◌, [], true, Some, None, length, slice_get, slice_set, IfOk, IfErr, OnOk, OnErr};
+ghost use Rattle.member_store.specs.Left.{Tells};
+ghost use Rattle.world_rules.specs.Crashes.{images_left, wrong_images};
+ghost use Rattle.world_rules.specs.Worlds.{Host, core_course, crashes, crash_all, at_member, host_crashed, parts_held, resumes, restart_at, restart_all, restart_member};
+ghost use Rattle.world_hosts.specs.Lives.{node_in, host_with, told_with};
 ghost use Rattle.world_nodes.specs.Crashes.{runs, is_down, stops, telling_if, goes_on};
 
 use crate::deliveries::present;
+use crate::events::acts;
 use member_store::crash::CrashFault;
 use smart_base::name::MemberId;
 use smart_service::service::Service;
@@ -14,6 +18,30 @@ use world_rules::crash::{Image, Patch};
 use world_rules::line::OutLine;
 use world_rules::message::{Ending, Premise};
 use world_state::state::WorldState;
+
+/// Crashes the running host at an index, and leaves this of its devices. Errors: bytes that no crash
+/// leaves; want of memory. Nothing has changed then.
+fn crash_host<S: Service>(
+    world: &mut WorldState<S>,
+    i: usize,
+    image: Image,
+    patches: &[Patch],
+) -> Result<(), CrashFault>
+    requires within { i < length world.old.hosts }
+    requires up { runs (slice_get world.old.hosts i) ≡ true }
+    ensures right { (h : Host S) → slice_get world.old.hosts i ≡ Some h → OnOk result (wrong_images h.store (images_left image patches.now h.store) ≡ None) }
+    ensures left { (h : Host S) → slice_get world.old.hosts i ≡ Some h → OnOk result (world.new ≡ record world.old { hosts = slice_set world.old.hosts i (host_crashed (core_course S.meaning) h (images_left image patches.now h.store)) }) }
+    ensures wrong { (h : Host S) → slice_get world.old.hosts i ≡ Some h → IfErr result (λ e. Tells e (wrong_images h.store (images_left image patches.now h.store))) }
+    ensures same { OnErr result (world.new ≡ world.old) }
+{
+    world.hosts[i].crash(image, patches)
+}
+
+fn end<S: Service>(world: &mut WorldState<S>, ending: Ending)
+    ensures { world.new ≡ record world.old { ending = Some ending } }
+{
+    world.ending = Some(ending);
+}
 
 /// Crashes the running node at an index, and leaves this of its devices. Bytes that no crash leaves
 /// end the play. Error: want of memory.
@@ -27,14 +55,14 @@ fn stop_at<S: Service>(
     requires up { runs (slice_get world.old.hosts i) ≡ true }
     ensures { OnOk result (world.new ≡ stops (core_course S.meaning) image patches.now i world.old (slice_get world.old.hosts i)) }
 {
-    let member = world.hosts[i].id();
-    match world.hosts[i].crash(image, patches) {
+    let member = world.hosts()[i].id();
+    match crash_host(world, i, image, patches) {
         Ok(()) => {
             world.tell(OutLine::Crashed { member })?;
             Ok(())
         }
         Err(CrashFault::NotAnImage(wrong)) => {
-            world.ending = Some(Ending::Premise(Premise::NotAnImage(wrong)));
+            end(world, Ending::Premise(Premise::NotAnImage(wrong)));
             Ok(())
         }
         Err(CrashFault::NoMemory) => Err(AllocError),
@@ -42,7 +70,6 @@ fn stop_at<S: Service>(
 }
 
 /// Crashes the node at an index, if it runs, and leaves this of its devices. Error: want of memory.
-#[tactic(auto, unfolding(world_rules::specs::Worlds::crashes))]
 fn crash<S: Service>(
     world: &mut WorldState<S>,
     i: usize,
@@ -51,11 +78,8 @@ fn crash<S: Service>(
 ) -> Result<(), AllocError>
     ensures { OnOk result (world.new ≡ crashes (core_course S.meaning) image patches.now i world.old) }
 {
-    if world.is_halted() || i >= world.hosts.len() {
-        return Ok(());
-    }
-    if world.is_up(&world.hosts[i]) {
-        stop_at(world, i, image, patches)?;
+    if acts(world, i) {
+        return stop_at(world, i, image, patches);
     }
     Ok(())
 }
@@ -76,11 +100,10 @@ pub fn crash_member<S: Service>(
 }
 
 /// Crashes each member whose node runs, by number. Error: want of memory.
-#[tactic(auto, using(crate::proofs::Turns::each_more, crate::proofs::Turns::each_done))]
 pub fn crash_all<S: Service>(world: &mut WorldState<S>, image: Image) -> Result<(), AllocError>
     ensures { OnOk result (world.new ≡ crash_all (core_course S.meaning) image world.old) }
 {
-    let count = world.hosts.len();
+    let count = world.hosts().len();
     for i in 0..count {
         crash(world, i, image, &[])?;
     }
@@ -96,19 +119,33 @@ fn tell_if<S: Service>(world: &mut WorldState<S>, line: Option<OutLine>) -> Resu
     Ok(())
 }
 
+/// Restarts the crashed host at an index from what its devices hold, and gives what the restart tells.
+/// Error: want of memory.
+fn resume_host<S: Service>(
+    world: &mut WorldState<S>,
+    i: usize,
+) -> Result<Option<OutLine>, AllocError>
+    requires within { i < length world.old.hosts }
+    requires down { is_down (slice_get world.old.hosts i) ≡ true }
+    ensures world { (h : Host S) → slice_get world.old.hosts i ≡ Some h → OnOk result (world.new ≡ record world.old { hosts = slice_set world.old.hosts i (host_with h (node_in S.meaning world.old.view world.old.period h)) }) }
+    ensures line { (h : Host S) → slice_get world.old.hosts i ≡ Some h → IfOk result (λ line. line ≡ told_with h.node.id (length (parts_held h).entries) (node_in S.meaning world.old.view world.old.period h)) }
+{
+    lives::resume(
+        world.alloc,
+        &mut world.hosts[i],
+        &world.view,
+        world.period,
+        world.ring.get(),
+    )
+}
+
 /// Restarts the crashed node at an index from what its devices hold. Error: want of memory.
 fn resume_at<S: Service>(world: &mut WorldState<S>, i: usize) -> Result<(), AllocError>
     requires within { i < length world.old.hosts }
     requires down { is_down (slice_get world.old.hosts i) ≡ true }
     ensures { OnOk result (world.new ≡ goes_on (core_course S.meaning) i world.old (slice_get world.old.hosts i)) }
 {
-    let line = lives::resume(
-        world.alloc,
-        &mut world.hosts[i],
-        &world.view,
-        world.period,
-        world.ring.get(),
-    )?;
+    let line = resume_host(world, i)?;
     tell_if(world, line)?;
     Ok(())
 }
@@ -155,18 +192,17 @@ pub fn restart_member<S: Service>(
 ) -> Result<(), AllocError>
     ensures { OnOk result (world.new ≡ restart_member (core_course S.meaning) member world.old) }
 {
-    if let Some(i) = host_index(world.hosts.as_slice(), member) {
-        restart_at(world, i)?;
+    match host_index(world.hosts(), member) {
+        None => Ok(()),
+        Some(i) => restart_at(world, i),
     }
-    Ok(())
 }
 
 /// Restarts each member that has crashed, by number. Error: want of memory.
-#[tactic(auto, using(crate::proofs::Turns::each_more, crate::proofs::Turns::each_done))]
 pub fn restart_all<S: Service>(world: &mut WorldState<S>) -> Result<(), AllocError>
     ensures { OnOk result (world.new ≡ restart_all (core_course S.meaning) world.old) }
 {
-    let count = world.hosts.len();
+    let count = world.hosts().len();
     for i in 0..count {
         resume(world, i)?;
     }

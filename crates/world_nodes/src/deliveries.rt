@@ -5,7 +5,7 @@ ghost use Rattle.world_rules.specs.Repeats.{repeated};
 ghost use Rattle.world_nodes.specs.Crashes.{runs};
 ghost use Rattle.world_nodes.specs.Idling.{idle_lines, tries};
 
-use crate::events::{call_often, node_takes, settle, step_at};
+use crate::events::{acts, call_often, node_takes, settle, step_at};
 use smart_base::name::MemberId;
 use smart_service::service::Service;
 use smart_statements::entry::NodeEvent;
@@ -18,13 +18,15 @@ use world_state::state::WorldState;
 fn present_at<S: Service>(world: &mut WorldState<S>, i: usize) -> Result<Option<usize>, AllocError>
     ensures { IfOk result (λ found. (f : ℕ → World S → World S) → at_index f world.new found ≡ at_host f i world.old (slice_get world.old.hosts i)) }
 {
-    if i >= world.hosts.len() {
+    let hosts = world.hosts();
+    if i >= hosts.len() {
         return Ok(None);
     }
-    if world.is_up(&world.hosts[i]) {
+    let host = &hosts[i];
+    if world.is_up(host) {
         return Ok(Some(i));
     }
-    let member = world.hosts[i].id();
+    let member = host.id();
     world.tell(OutLine::Absent { member })?;
     Ok(None)
 }
@@ -37,7 +39,7 @@ pub fn present<S: Service>(
 ) -> Result<Option<usize>, AllocError>
     ensures { IfOk result (λ found. (f : ℕ → World S → World S) → at_index f world.new found ≡ at_member f member world.old) }
 {
-    match host_index(world.hosts.as_slice(), member) {
+    match host_index(world.hosts(), member) {
         None => Ok(None),
         Some(i) => present_at(world, i),
     }
@@ -93,7 +95,7 @@ fn tell_idle<S: Service>(
     ensures { OnOk result (world.new ≡ telling_all world.old (idle_lines id idle)) }
 {
     if idle {
-        world.told.push(OutLine::Idle { member: id })?;
+        world.tell(OutLine::Idle { member: id })?;
     }
     Ok(())
 }
@@ -109,14 +111,13 @@ fn try_up<S: Service>(
     requires up { runs (slice_get world.old.hosts i) ≡ true }
     ensures { OnOk result (world.new ≡ tries (core_course S.meaning) i event.now world.old (slice_get world.old.hosts i)) }
 {
-    let id = world.hosts[i].id();
+    let id = world.hosts()[i].id();
     let idle = step_at(world, i, event)?;
     tell_idle(world, id, idle)?;
     Ok(())
 }
 
 /// Lets the node at an index deliver, or lets time pass there, if it runs. Error: want of memory.
-#[tactic(auto, unfolding(world_rules::specs::Worlds::tries_at))]
 fn try_at<S: Service>(
     world: &mut WorldState<S>,
     i: usize,
@@ -124,11 +125,8 @@ fn try_at<S: Service>(
 ) -> Result<(), AllocError>
     ensures { OnOk result (world.new ≡ tries_at (core_course S.meaning) event.now i world.old) }
 {
-    if world.is_halted() || i >= world.hosts.len() {
-        return Ok(());
-    }
-    if world.is_up(&world.hosts[i]) {
-        try_up(world, i, event)?;
+    if acts(world, i) {
+        return try_up(world, i, event);
     }
     Ok(())
 }

@@ -1,19 +1,23 @@
 //! Events of nodes: what is due there, and what is given to those that a line lists.
-ghost use Rattle.std.specs.Prelude.{◌≡◌, ◌<◌, true, IfOk, OnOk, length, slice_get, false};
-ghost use Rattle.world_rules.specs.Worlds.{core_course, told_absent, settle_present, node_takes, calls_disk, takes_due, settle_once, settle, settle_all, is_listed, at_listed, at_index, host_index, telling_all};
+ghost use Rattle.std.specs.Prelude.{◌≡◌, ◌<◌, Some, true, IfOk, OnOk, length, slice_get, slice_set, false};
+ghost use Rattle.std.specs.List.{flat_map};
+ghost use Rattle.node_rules.specs.Kept.{core_step};
+ghost use Rattle.node_rules.specs.Steps.{leaving};
+ghost use Rattle.node_rules.specs.Transfers.{completed_by};
+ghost use Rattle.world_rules.specs.Worlds.{Host, core_course, disk_called, snapshot_in, told_absent, settle_present, node_takes, calls_disk, takes_due, settle_once, settle, settle_all, is_listed, at_listed, at_index, host_index, telling_all};
 ghost use Rattle.world_rules.specs.Repeats.{repeated};
+ghost use Rattle.world_hosts.specs.Hearing.{firmness, is_idle};
 ghost use Rattle.world_nodes.specs.Acting.{acts};
 ghost use Rattle.world_nodes.specs.Calling.{steps_if, calls};
 ghost use Rattle.world_nodes.specs.Crashes.{runs};
-ghost use Rattle.world_nodes.specs.Idling.{steps, met_at, takes_at, is_idle_at};
+ghost use Rattle.world_nodes.specs.Idling.{stepped_in, steps, met_at, takes_at, is_idle_at};
 
-use smart_base::duplicate::Duplicate;
 use smart_base::name::MemberId;
 use smart_base::sequence::Bytes;
 use smart_service::service::Service;
 use smart_statements::entry::NodeEvent;
 use std::alloc::AllocError;
-use world_hosts::host::{call_disk, host_index, is_among, step_host};
+use world_hosts::host::{Left, call_disk, host_index, is_among, step_host};
 use world_rules::line::OutLine;
 use world_state::state::WorldState;
 
@@ -22,6 +26,32 @@ fn is_listed(members: &[MemberId], member: MemberId) -> bool
     ensures { result ≡ is_listed members.now member }
 {
     members.is_empty() || is_among(members, member)
+}
+
+/// Takes an event at the running node at an index. Gives what the step leaves, and the snapshots that
+/// it marked. Error: want of memory.
+fn step_in<S: Service>(
+    world: &mut WorldState<S>,
+    i: usize,
+    event: &NodeEvent,
+) -> Result<(Left, Vec<Bytes>), AllocError>
+    requires within { i < length world.old.hosts }
+    requires up { runs (slice_get world.old.hosts i) ≡ true }
+    ensures world { (h : Host S) → slice_get world.old.hosts i ≡ Some h → OnOk result (world.new ≡ stepped_in (core_course S.meaning) i world.old h (core_step S.meaning h.node event.now)) }
+    ensures left { (h : Host S) → slice_get world.old.hosts i ≡ Some h → IfOk result (λ r. let after = (core_step S.meaning h.node event.now).node in r.0.messages ≡ leaving after.firm after.held) }
+    ensures idle { (h : Host S) → slice_get world.old.hosts i ≡ Some h → IfOk result (λ r. r.0.idle ≡ is_idle (core_step S.meaning h.node event.now).fired) }
+    ensures marked { (h : Host S) → slice_get world.old.hosts i ≡ Some h → IfOk result (λ r. r.1.items ≡ flat_map snapshot_in (core_step S.meaning h.node event.now).fired) }
+{
+    let mut marked: Vec<Bytes> = Vec::new(world.alloc);
+    let left = step_host(
+        world.alloc,
+        &mut world.hosts[i],
+        &mut world.chosen,
+        &mut world.told,
+        &mut marked,
+        event,
+    )?;
+    Ok((left, marked))
 }
 
 /// Makes a step of the running node at an index, and tells whether no rule fired. Error: want of
@@ -36,25 +66,23 @@ pub fn step_at<S: Service>(
     ensures world { OnOk result (world.new ≡ steps (core_course S.meaning) i event.now world.old (slice_get world.old.hosts i)) }
     ensures idle { IfOk result (λ idle. idle ≡ is_idle_at (core_course S.meaning) event.now (slice_get world.old.hosts i)) }
 {
-    let id = world.hosts[i].id();
-    let mut marked: Vec<Bytes> = Vec::new(world.alloc);
-    let left = step_host(
-        world.alloc,
-        &mut world.hosts[i],
-        &mut world.chosen,
-        &mut world.told,
-        &mut marked,
-        event,
-    )?;
-    // Most steps let nothing leave, and want no copy of the view.
-    if left.messages.is_empty() {
-        world.meet_all(marked)?;
-        return Ok(left.idle);
-    }
-    let view = world.hosts[i].view().duplicate(world.alloc)?;
-    world.meet_all(marked)?;
-    world.send_all(id, &view, left.messages)?;
+    let id = world.hosts()[i].id();
+    let (left, marked) = step_in(world, i, event)?;
+    world.leave(id, i, marked, left.messages)?;
     Ok(left.idle)
+}
+
+/// The texts that an event completes at the node at an index: one, or none. Error: want of memory.
+fn completed_at<S: Service>(
+    world: &mut WorldState<S>,
+    i: usize,
+    event: &NodeEvent,
+) -> Result<Vec<Bytes>, AllocError>
+    requires { i < length world.old.hosts }
+    ensures texts { (h : Host S) → slice_get world.old.hosts i ≡ Some h → IfOk result (λ texts. texts.items ≡ completed_by h.node event.now) }
+    ensures same { world.new ≡ world.old }
+{
+    world.hosts[i].completed(world.alloc, event)
 }
 
 /// Meets the text that an event completes at the node at an index. Error: want of memory.
@@ -66,7 +94,7 @@ fn meet_completed<S: Service>(
     requires { i < length world.old.hosts }
     ensures { OnOk result (world.new ≡ met_at event.now world.old (slice_get world.old.hosts i)) }
 {
-    let texts = world.hosts[i].completed(world.alloc, event)?;
+    let texts = completed_at(world, i, event)?;
     world.meet_all(texts)?;
     Ok(())
 }
@@ -91,7 +119,6 @@ fn takes_met<S: Service>(
 }
 
 /// Takes an event at the node at an index, if it runs. Error: want of memory.
-#[tactic(auto, unfolding(world_rules::specs::Worlds::node_takes))]
 pub fn node_takes<S: Service>(
     world: &mut WorldState<S>,
     i: usize,
@@ -99,11 +126,8 @@ pub fn node_takes<S: Service>(
 ) -> Result<(), AllocError>
     ensures { OnOk result (world.new ≡ node_takes (core_course S.meaning) i event.now world.old) }
 {
-    if world.is_halted() || i >= world.hosts.len() {
-        return Ok(());
-    }
-    if world.is_up(&world.hosts[i]) {
-        takes_met(world, i, event)?;
+    if acts(world, i) {
+        return takes_met(world, i, event);
     }
     Ok(())
 }
@@ -124,15 +148,28 @@ fn step_if<S: Service>(
     Ok(())
 }
 
+/// Makes the next device call of the running host's store at an index, and gives what its node has to
+/// hear then. Error: want of memory.
+fn call_host<S: Service>(
+    world: &mut WorldState<S>,
+    i: usize,
+) -> Result<Option<NodeEvent>, AllocError>
+    requires within { i < length world.old.hosts }
+    requires up { runs (slice_get world.old.hosts i) ≡ true }
+    ensures world { (h : Host S) → slice_get world.old.hosts i ≡ Some h → OnOk result (world.new ≡ record world.old { hosts = slice_set world.old.hosts i (disk_called (core_course S.meaning) h) }) }
+    ensures event { (h : Host S) → slice_get world.old.hosts i ≡ Some h → IfOk result (λ event. event ≡ firmness (disk_called (core_course S.meaning) h)) }
+{
+    call_disk(&mut world.hosts[i])
+}
+
 /// Makes the next device call of the store at an index; its running node hears what is firm then.
 /// Error: want of memory.
-#[tactic(auto, using(crate::proofs::Calling::called_then))]
 fn call_at<S: Service>(world: &mut WorldState<S>, i: usize) -> Result<(), AllocError>
     requires within { i < length world.old.hosts }
     requires up { runs (slice_get world.old.hosts i) ≡ true }
     ensures { OnOk result (world.new ≡ calls (core_course S.meaning) i world.old (slice_get world.old.hosts i)) }
 {
-    let event = call_disk(&mut world.hosts[i])?;
+    let event = call_host(world, i)?;
     step_if(world, i, &event)?;
     Ok(())
 }
@@ -169,13 +206,14 @@ pub fn call_often<S: Service>(
 }
 
 /// Whether something may happen at an index: the play goes on, and the node there runs.
-fn acts<S: Service>(world: &WorldState<S>, i: usize) -> bool
+pub(crate) fn acts<S: Service>(world: &WorldState<S>, i: usize) -> bool
     ensures { result ≡ acts world.now (slice_get world.now.hosts i) }
 {
-    if world.is_halted() || i >= world.hosts.len() {
+    let hosts = world.hosts();
+    if world.is_halted() || i >= hosts.len() {
         return false;
     }
-    world.is_up(&world.hosts[i])
+    world.is_up(&hosts[i])
 }
 
 /// Does one thing that is due at the running node at an index, if anything is: a device call, or else
@@ -186,11 +224,13 @@ fn settle_up<S: Service>(world: &mut WorldState<S>, i: usize) -> Result<bool, Al
     ensures world { OnOk result (world.new ≡ takes_due (core_course S.meaning) i world.old (slice_get world.old.hosts i)) }
     ensures idle { IfOk result (λ more. more ≡ false → world.new ≡ world.old) }
 {
-    if world.hosts[i].has_call() {
+    let host = &world.hosts()[i];
+    let (due, waits) = (host.has_call(), host.waits());
+    if due {
         calls_disk(world, i)?;
         return Ok(true);
     }
-    if world.hosts[i].waits() {
+    if waits {
         node_takes(world, i, &NodeEvent::Deliver)?;
         return Ok(true);
     }
@@ -231,7 +271,7 @@ fn tell_absent<S: Service>(
     ensures { OnOk result (world.new ≡ telling_all world.old (told_absent members.now member)) }
 {
     if !members.is_empty() {
-        world.told.push(OutLine::Absent { member })?;
+        world.tell(OutLine::Absent { member })?;
     }
     Ok(())
 }
@@ -271,14 +311,13 @@ fn settle_listed<S: Service>(
 }
 
 /// Settles each listed node, by number. Error: want of memory.
-#[tactic(auto, using(crate::proofs::Turns::each_more, crate::proofs::Turns::each_done))]
 pub fn settle_all<S: Service>(
     world: &mut WorldState<S>,
     members: &[MemberId],
 ) -> Result<(), AllocError>
     ensures { OnOk result (world.new ≡ settle_all (core_course S.meaning) members.now world.old) }
 {
-    let count = world.hosts.len();
+    let count = world.hosts().len();
     for i in 0..count {
         settle_listed(world, members, i)?;
     }
@@ -323,8 +362,8 @@ pub fn give_member<S: Service>(
 ) -> Result<(), AllocError>
     ensures { OnOk result (world.new ≡ at_index (at_listed members.now (λ i w. settle (core_course S.meaning) i (node_takes (core_course S.meaning) i event.now w))) world.old (host_index world.old.hosts member)) }
 {
-    if let Some(i) = host_index(world.hosts.as_slice(), member) {
-        give_listed(world, members, i, event)?;
+    match host_index(world.hosts(), member) {
+        None => Ok(()),
+        Some(i) => give_listed(world, members, i, event),
     }
-    Ok(())
 }

@@ -6,5 +6,5 @@ use Rattle.world_nodes.proofs.deliveries.present.Goals as goal
 pub returns-in-Some : goal.returns-in-Some
 returns-in-Some g c =
     let there : host_index c.args.world.now.hosts c.args.member ≡ Some c.in-Some.i =
-    ap (λ w. host_index w.hosts c.args.member) (sym c.world.view_is) ∙ (ap (λ hs. host_index hs c.args.member) (sym c.as_slice.ensures.value) ∙ sym c.in-Some.ensures) in
+    ap (λ hs. host_index hs c.args.member) (sym c.hosts.ensures) ∙ sym c.in-Some.ensures in
     found_at c.args.member c.args.world.now c.present_at.new.world c.in-Some.i c.present_at.result there c.present_at.ensures
