@@ -1,5 +1,5 @@
 -- Hosts at which something may happen, and what is due there.
-use Rattle.std.proofs.Common.{◌≡◌, ℕ, ◌<◌, Bool, true, false, Option, Some, None, refl, ap, sym, subst, ◌∙◌, cond, length}
+use Rattle.std.proofs.Common.{◌≡◌, ℕ, ◌<◌, Bool, true, false, List, Option, Some, None, refl, ap, sym, subst, ◌∙◌, cond, length}
 use Rattle.std.specs.Prelude.{slice_get, is_some, ◌&&◌, not}
 use Rattle.std.proofs.lemmas.Option.{slice_get_within}
 use Rattle.smart_statements.specs.declared.entry.NodeEvent.{NodeEvent}
@@ -34,6 +34,19 @@ acts_within i w holds = acts_inside i w (slice_get w.hosts i) refl holds
 pub acts_runs : {S : Type 0} (w : World S) (found : Option (Host S)) → acts w found ≡ true → runs found ≡ true
 acts_runs w None holds = holds
 acts_runs w (Some h) holds = first h.up (not (is_gone w h.node.id)) (second (not (is_halted w)) (is_up w h) holds)
+
+-- nothing happens after the end
+pub acts_over : {S : Type 0} (w : World S) (found : Option (Host S)) → is_halted w ≡ true → false ≡ acts w found
+acts_over w None over = refl
+acts_over w (Some h) over = sym (ap (λ b. not b && is_up w h) over)
+
+-- nor where there is no host
+pub acts_past : {S : Type 0} (w : World S) (i : ℕ) → slice_get w.hosts i ≡ None → false ≡ acts w (slice_get w.hosts i)
+acts_past w i none = sym (ap (λ found. acts w found) none)
+
+-- else it goes by whether the node runs
+pub acts_at : {S : Type 0} (w : World S) (i : ℕ) (h : Host S) (up : Bool) → slice_get w.hosts i ≡ Some h → is_halted w ≡ false → up ≡ is_up w h → up ≡ acts w (slice_get w.hosts i)
+acts_at w i h up there on is = is ∙ (sym (ap (λ b. not b && is_up w h) on) ∙ sym (ap (λ found. acts w found) there))
 
 kept : {A : Type 0} (over up : Bool) (x w : A) → (not over && up) ≡ false → cond over w (cond (not up) w x) ≡ w
 kept true up x w fails = refl

@@ -1,6 +1,6 @@
 -- An event at a node, behind the text that it completes.
-use Rattle.std.proofs.Common.{◌≡◌, ℕ, zero, suc, Bool, true, false, List, [], ◌∷◌, Option, Some, None, refl, ap, sym, ◌∙◌, cond}
-use Rattle.std.specs.Prelude.{slice_get, slice_set}
+use Rattle.std.proofs.Common.{◌≡◌, ℕ, Bool, true, false, List, Option, Some, None, refl, ap, sym, ◌∙◌, cond}
+use Rattle.std.specs.Prelude.{slice_get}
 use Rattle.smart_statements.specs.declared.entry.NodeEvent.{NodeEvent}
 use Rattle.node_rules.specs.Transfers.{completed_by}
 use Rattle.world_rules.specs.Worlds.{Course, Host, World, is_halted, meets, stepped}

@@ -209,8 +209,11 @@ pub fn call_often<S: Service>(
 pub(crate) fn acts<S: Service>(world: &WorldState<S>, i: usize) -> bool
     ensures { result ≡ acts world.now (slice_get world.now.hosts i) }
 {
+    if world.is_halted() {
+        return false;
+    }
     let hosts = world.hosts();
-    if world.is_halted() || i >= hosts.len() {
+    if i >= hosts.len() {
         return false;
     }
     world.is_up(&hosts[i])

@@ -1,8 +1,7 @@
-use Rattle.std.proofs.Common.{◌≡◌, length, subst}
-use Rattle.std.specs.Prelude.{IfOk}
-use Rattle.world_rules.specs.Worlds.{Host, World, parts_held}
+use Rattle.std.proofs.Common.{length}
+use Rattle.world_rules.specs.Worlds.{parts_held}
 use Rattle.world_hosts.specs.Lives.{node_in, host_with, told_with}
-use Rattle.world_nodes.proofs.Hosts.{read_is, put_at, put_in, told_in}
+use Rattle.world_nodes.proofs.Hosts.{read_is, put_in, told_in}
 use Rattle.world_nodes.proofs.crashes.resume_host.Goals as goal
 
 pub returns-clause-world : goal.returns-clause-world

@@ -1,4 +1,4 @@
-use Rattle.std.proofs.Common.{◌≡◌, ◌<◌, ◌∙◌, ap, sym, subst, length}
+use Rattle.std.proofs.Common.{◌<◌, ◌∙◌, ap, sym, subst, length}
 use Rattle.std.specs.Prelude.{slice_get}
 use Rattle.node_rules.specs.Kept.{core_step}
 use Rattle.world_rules.specs.Worlds.{core_course, host_after}
