@@ -81,11 +81,12 @@ impl<S: Service, P: Place<S>, O: Sink + Drop> Drop for Seat<S, P, O> {
 }
 
 impl<S: Service, P: Place<S>, O: Sink> Seat<S, P, O> {
-    ghost use Rattle.std.specs.Prelude.{◌≡◌, ◌≤◌, ◌+◌, ◌++◌, ◌∷◌, [], List, ℕ, false, true, length, None, IfOk, OnOk, OnErr, IsErrOf, IsTrue, MatchBool};
+    ghost use Rattle.std.specs.Prelude.{◌≡◌, ◌≤◌, ◌+◌, ◌++◌, ◌∷◌, [], List, ℕ, false, true, length, Some, None, IfOk, OnOk, OnErr, IsErrOf, IsTrue, MatchBool};
     ghost use Rattle.std.specs.Io.KnownBytes.{Appends};
     ghost use Rattle.faults.specs.Counts.{Rose};
     ghost use Rattle.log_lane.specs.Lane.{lane_read, lane_room};
     ghost use Rattle.group_links.specs.Link.{link_put, link_taken, in_link, out_link};
+    ghost use Rattle.node_rules.specs.Kept.{core_step};
     ghost use Rattle.node_rules.specs.Steps.{first_leaving};
     ghost use Rattle.trail.specs.Trails.{trail_text};
     ghost use Rattle.trail.specs.declared.event.Addressed.{Addressed};
@@ -146,18 +147,25 @@ impl<S: Service, P: Place<S>, O: Sink> Seat<S, P, O> {
 
     /// Notes that the input is at its end.
     pub fn close(&mut self)
-        ensures { (self.new.over ≡ self.old.over) × (self.new.inner.trail.items ≡ self.old.inner.trail.items) }
+        ensures same { (self.new.over ≡ self.old.over) × (self.new.inner.trail.items ≡ self.old.inner.trail.items) }
+        ensures closing { self.new.closing ≡ true }
     {
         self.closing = true;
     }
 
     /// Takes what was handed over last.
-    pub fn take_handed(&mut self) -> Option<Snapshot<S>> {
+    pub fn take_handed(&mut self) -> Option<Snapshot<S>>
+        ensures handed { result ≡ self.old.handed }
+        ensures same { (self.new.over ≡ self.old.over) × (self.new.inner.trail.items ≡ self.old.inner.trail.items) }
+    {
         self.handed.take()
     }
 
     /// Hands a snapshot over, in the place of what was handed before.
-    pub fn hand(&mut self, snapshot: Snapshot<S>) {
+    pub fn hand(&mut self, snapshot: Snapshot<S>)
+        ensures handed { self.new.handed ≡ Some snapshot }
+        ensures same { (self.new.over ≡ self.old.over) × (self.new.inner.trail.items ≡ self.old.inner.trail.items) }
+    {
         self.handed = Some(snapshot);
     }
 
@@ -177,6 +185,7 @@ impl<S: Service, P: Place<S>, O: Sink> Seat<S, P, O> {
         requires own { IsOwn event }
         requires read { IsRead (lane_read self.old.inner.lane) event }
         ensures ok { OnOk result ((self.new.inner.trail.items ≡ self.old.inner.trail.items ++ Happens event ∷ []) × (self.new.over ≡ false)) }
+        ensures fired { IfOk result (λ outcome. outcome.fired ≡ (core_step S.meaning (replay (core_steps S.meaning) P.opening self.old.inner.trail.items) event).fired) }
         ensures err { OnErr result (self.new.over ≡ true) }
         ensures cause { IsErrOf result SeatEnd.TrailFault → self.new.failed ≡ true }
     {
@@ -252,6 +261,8 @@ impl<S: Service, P: Place<S>, O: Sink> Seat<S, P, O> {
         ensures text { HasWrittenFirst P.begun (O.written result.sink) (trail_text P.head P.entries result.inner.trail.items) }
         ensures all { result.over ≡ false → (link_taken result.from ≡ arrivals result.inner.trail.items) × ((link_put result.to ≡ payloads result.inner.trail.items) × Appends P.begun (O.written result.sink) (trail_text P.head P.entries result.inner.trail.items)) }
         ensures failed { result.failed ≡ true → Rose P.failures (O.faults result.sink) }
+        ensures noted { result.failed ≡ self.failed }
+        ensures later { P.failures ≤ O.faults result.sink }
     {
         let Seat {
             inner,

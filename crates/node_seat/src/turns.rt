@@ -20,26 +20,23 @@ pub enum Turn {
 }
 
 impl<S: Service, P: Place<S>, O: Sink> Seat<S, P, O> {
-    ghost use Rattle.std.specs.Prelude.{◌≡◌, ◌≤◌, false};
-    ghost use Rattle.log_lane.specs.Lane.{lane_read, lane_room};
-    ghost use Rattle.node_played.specs.Lives.{IsRead};
-    ghost use Rattle.node_seat.specs.Seats.{IsOwn};
-
-    /// Plays an event that is no arrival.
-    fn play<R: Wait>(&mut self, rt: &R, event: NodeEvent) -> Turn
-        requires over { self.old.over ≡ false }
-        requires room { 8 ≤ lane_room self.old.inner.lane }
-        requires own { IsOwn event }
-        requires read { IsRead (lane_read self.old.inner.lane) event }
-    {
-        match self.event(rt, event) {
-            Ok(_) => Turn::Done,
-            Err(_) => Turn::Over,
-        }
-    }
+    ghost use Rattle.std.specs.Prelude.{◌≡◌, ◌≤◌, ◌-◌, ◌++◌, ◌∷◌, [], List, ℕ, false, true, None, is_some};
+    ghost use Rattle.log_lane.specs.Lane.{lane_read};
+    ghost use Rattle.node_rules.specs.Steps.{first_leaving};
+    ghost use Rattle.smart_statements.specs.declared.entry.NodeEvent.TheVariants.{Arrive, Tick, Deliver, Firm};
+    ghost use Rattle.trail.specs.declared.event.Addressed.{Addressed};
+    ghost use Rattle.trail.specs.declared.event.TrailEvent.TheVariants.{Happens, Send};
+    ghost use Rattle.trail_rules.specs.Replays.{core_steps, replay};
 
     /// Tells the core how many entries are firm, if the lane tells more than it knows.
-    pub fn catch_up<R: Wait>(&mut self, rt: &R) -> Turn {
+    pub fn catch_up<R: Wait>(&mut self, rt: &R) -> Turn
+        ensures done { result ≡ Turn.Done → (count : ℕ) × (self.new.inner.trail.items ≡ self.old.inner.trail.items ++ Happens (Firm count) ∷ []) }
+        ensures nothing { result ≡ Turn.Nothing → (self.new.inner.trail.items ≡ self.old.inner.trail.items) × (lane_read self.new.inner.lane ≤ (replay (core_steps S.meaning) P.opening self.old.inner.trail.items).firm - P.restored) }
+        ensures no_room { result ≡ Turn.NoRoom → self.new.inner.trail.items ≡ self.old.inner.trail.items }
+        ensures over { result ≡ Turn.Over → self.new.over ≡ true }
+        ensures whole { self.new.over ≡ true → result ≡ Turn.Over }
+        ensures stays { self.old.over ≡ true → self.new.inner.trail.items ≡ self.old.inner.trail.items }
+    {
         if self.over {
             return Turn::Over;
         }
@@ -50,11 +47,21 @@ impl<S: Service, P: Place<S>, O: Sink> Seat<S, P, O> {
         if !self.inner.is_told_more(read) {
             return Turn::Nothing;
         }
-        self.play(rt, NodeEvent::Firm(read))
+        match self.event(rt, NodeEvent::Firm(read)) {
+            Ok(_) => Turn::Done,
+            Err(_) => Turn::Over,
+        }
     }
 
     /// Lets time pass.
-    pub fn tick<R: Wait>(&mut self, rt: &R) -> Turn {
+    pub fn tick<R: Wait>(&mut self, rt: &R) -> Turn
+        ensures done { result ≡ Turn.Done → self.new.inner.trail.items ≡ self.old.inner.trail.items ++ Happens Tick ∷ [] }
+        ensures nothing { result ≡ Turn.Nothing → ⊥ }
+        ensures no_room { result ≡ Turn.NoRoom → self.new.inner.trail.items ≡ self.old.inner.trail.items }
+        ensures over { result ≡ Turn.Over → self.new.over ≡ true }
+        ensures whole { self.new.over ≡ true → result ≡ Turn.Over }
+        ensures stays { self.old.over ≡ true → self.new.inner.trail.items ≡ self.old.inner.trail.items }
+    {
         if self.over {
             return Turn::Over;
         }
@@ -62,11 +69,21 @@ impl<S: Service, P: Place<S>, O: Sink> Seat<S, P, O> {
         if !self.inner.has_room() {
             return Turn::NoRoom;
         }
-        self.play(rt, NodeEvent::Tick)
+        match self.event(rt, NodeEvent::Tick) {
+            Ok(_) => Turn::Done,
+            Err(_) => Turn::Over,
+        }
     }
 
     /// Lets the service execute the batch that waits, if one does.
-    pub fn deliver<R: Wait>(&mut self, rt: &R) -> Turn {
+    pub fn deliver<R: Wait>(&mut self, rt: &R) -> Turn
+        ensures done { result ≡ Turn.Done → self.new.inner.trail.items ≡ self.old.inner.trail.items ++ Happens Deliver ∷ [] }
+        ensures nothing { result ≡ Turn.Nothing → (self.new.inner.trail.items ≡ self.old.inner.trail.items) × (is_some (replay (core_steps S.meaning) P.opening self.old.inner.trail.items).waiting ≡ false) }
+        ensures no_room { result ≡ Turn.NoRoom → self.new.inner.trail.items ≡ self.old.inner.trail.items }
+        ensures over { result ≡ Turn.Over → self.new.over ≡ true }
+        ensures whole { self.new.over ≡ true → result ≡ Turn.Over }
+        ensures stays { self.old.over ≡ true → self.new.inner.trail.items ≡ self.old.inner.trail.items }
+    {
         if self.over {
             return Turn::Over;
         }
@@ -77,11 +94,21 @@ impl<S: Service, P: Place<S>, O: Sink> Seat<S, P, O> {
         if !self.inner.has_room() {
             return Turn::NoRoom;
         }
-        self.play(rt, NodeEvent::Deliver)
+        match self.event(rt, NodeEvent::Deliver) {
+            Ok(_) => Turn::Done,
+            Err(_) => Turn::Over,
+        }
     }
 
     /// Plays the next message that arrived, if one did.
-    pub fn take<R: Wait>(&mut self, rt: &R) -> Turn {
+    pub fn take<R: Wait>(&mut self, rt: &R) -> Turn
+        ensures done { result ≡ Turn.Done → (bytes : List ℕ) × (self.new.inner.trail.items ≡ self.old.inner.trail.items ++ Happens (Arrive bytes) ∷ []) }
+        ensures nothing { result ≡ Turn.Nothing → self.new.inner.trail.items ≡ self.old.inner.trail.items }
+        ensures no_room { result ≡ Turn.NoRoom → self.new.inner.trail.items ≡ self.old.inner.trail.items }
+        ensures over { result ≡ Turn.Over → self.new.over ≡ true }
+        ensures whole { self.new.over ≡ true → result ≡ Turn.Over }
+        ensures stays { self.old.over ≡ true → self.new.inner.trail.items ≡ self.old.inner.trail.items }
+    {
         if self.over {
             return Turn::Over;
         }
@@ -97,7 +124,14 @@ impl<S: Service, P: Place<S>, O: Sink> Seat<S, P, O> {
     }
 
     /// Sends the next message that leaves, if one does.
-    pub fn let_go<R: Wait>(&mut self, rt: &R) -> Turn {
+    pub fn let_go<R: Wait>(&mut self, rt: &R) -> Turn
+        ensures done { result ≡ Turn.Done → (a : Addressed) × (self.new.inner.trail.items ≡ self.old.inner.trail.items ++ Send a ∷ []) }
+        ensures nothing { result ≡ Turn.Nothing → (self.new.inner.trail.items ≡ self.old.inner.trail.items) × (first_leaving (replay (core_steps S.meaning) P.opening self.old.inner.trail.items).firm (replay (core_steps S.meaning) P.opening self.old.inner.trail.items).held ≡ None) }
+        ensures no_room { result ≡ Turn.NoRoom → ⊥ }
+        ensures over { result ≡ Turn.Over → self.new.over ≡ true }
+        ensures whole { self.new.over ≡ true → result ≡ Turn.Over }
+        ensures stays { self.old.over ≡ true → self.new.inner.trail.items ≡ self.old.inner.trail.items }
+    {
         if self.over {
             return Turn::Over;
         }
