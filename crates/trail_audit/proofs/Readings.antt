@@ -52,7 +52,7 @@ are_read bytes r count stop trails read lacks parts trails_are none lacks_is rea
     let done : IsStop stops.Done count parts.last = subst (λ (s : Stop). IsStop s count parts.last) whole.ended parts.stop in
     let all : read ≡ r.trails = read_is ∙ (trails_are ∙ whole_of r.trails r.begun begun) in
     let as_read : r ≡ record { trails = read; begun = None } =
-        ap (λ (b : Option Recorded). record { trails = r.trails; begun = b }) begun ∙ ap (λ (ts : List Recorded). record { trails = ts; begun = None }) (sym all) in
+    ap (λ (b : Option Recorded). record { trails = r.trails; begun = b }) begun ∙ ap (λ (ts : List Recorded). record { trails = ts; begun = None }) (sym all) in
     record {
       count = count;
       some = whole.some;

@@ -13,8 +13,8 @@ returns-in-Some g c = λ sent index.
     let is = drop_more c.args.events.now c.loop-event.event-index _ c.loop-event-test.true ∙ ap (λ (x : TrailEvent). x ∷ rest) (sym c.event-item.is) in
     ap (λ (d : Difference). Some d) c.difference.ensures
     ∙ member-found (core_steps g.S.Service.meaning) sent c.args.opening.now c.loop-event.number c.loop-event.core.node c.event-item.result rest
-      (drop c.loop-event.event-index c.args.events.now) _ is (c.loop-event.invariant.rest sent index) c.in_ok-ring.ring c.in_ok-told.told c.in-Some.found c.in_ok-ring.ensures
-      (c.in_ok-told.ensures.found sent index) c.in-Some.is
+    (drop c.loop-event.event-index c.args.events.now) _ is (c.loop-event.invariant.rest sent index) c.in_ok-ring.ring c.in_ok-told.told c.in-Some.found c.in_ok-ring.ensures
+    (c.in_ok-told.ensures.found sent index) c.in-Some.is
 
 pub loop-event-preserved : goal.loop-event-preserved
 loop-event-preserved g c =
