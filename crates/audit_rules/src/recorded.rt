@@ -4,6 +4,9 @@ use smart_messages::message::Sealed;
 use trail::event::{Addressed, TrailEvent};
 use trail::opening::TrailOpening;
 
+/// The most parts of trails that one audit reads.
+pub const PARTS: u64 = 1 << 24;
+
 /// The trail of a member, or of a client.
 pub struct Recorded {
     pub opening: TrailOpening,
@@ -19,6 +22,22 @@ impl Drop for Recorded {
             opening: _,
             entries: _,
             events: _,
+        } = self;
+    }
+}
+
+/// Trails as far as they were read: those that are whole, and the one that has begun.
+pub struct Reading {
+    pub trails: Sequence<Recorded>,
+    pub begun: Option<Recorded>,
+}
+
+/// Let go by one call, so that no function that lets one go carries the whole of it.
+impl Drop for Reading {
+    fn drop(self) {
+        let Reading {
+            trails: _,
+            begun: _,
         } = self;
     }
 }
