@@ -12,6 +12,7 @@ use Rattle.trail.specs.declared.event.TrailEvent.{TrailEvent}
 use Rattle.trail.specs.declared.event.TrailEvent.TheVariants.{Happens, Send, Lost, Polls, End}
 use Rattle.trail.specs.declared.opening.TrailOpening.{TrailOpening}
 use Rattle.audit_rules.specs.declared.recorded.Recorded.{Recorded}
+use Rattle.audit_rules.specs.declared.recorded.TheConstants.{PARTS}
 use Rattle.audit_rules.specs.declared.recorded.Reading.{Reading}
 use Rattle.audit_rules.specs.Audits.{is_client, damage_by, CanBegin}
 
@@ -135,14 +136,26 @@ pub record AreRead (bytes : List ℕ) (trails : List Recorded) : Type 0 where
   pub all : length last.left ≡ 0
   pub begin : Each CanBegin trails
 
--- the next part is lacking or cannot be read
-abbrev pub stops : Reached → Bool
-stops x = if length x.cut.left == 0 then is_some x.reading.begun else is_none (next_part x)
+-- after so many parts the next one is lacking: a trail has begun
+abbrev pub Lacks : Reached → Type 0
+Lacks x = (length x.cut.left ≡ 0) × (is_some x.reading.begun ≡ true)
 
--- The first part that cannot be read has this number. Either the parts before it can be read, and it is lacking or cannot be; or it is a damaged
--- one of a member's beginning.
+-- or the next one cannot be read
+abbrev pub Refuses : ℕ → Reached → Type 0
+Refuses count x = (count < PARTS) × ((0 < length x.cut.left) × (next_part x ≡ None))
+
+-- The first part that cannot be read has this number. It is a damaged one of a member's beginning. Or the parts before it can be read, and it is
+-- lacking or cannot be.
 pub record StopsAt (bytes : List ℕ) (part : ℕ) : Type 0 where
   pub count : ℕ
   pub last : Reached
   pub reached : parts_read bytes count ≡ Some last
-  pub cause : (damaged_part 0 (all_begun last.reading) ≡ Some part) ⊎ ((damaged_part 0 (all_begun last.reading) ≡ None) × (part ≡ count + 1) × (stops last ≡ true))
+  pub cause : (damaged_part 0 (all_begun last.reading) ≡ Some part) ⊎ ((damaged_part 0 (all_begun last.reading) ≡ None) × ((part ≡ count + 1) × (Lacks last ⊎ Refuses count last)))
+
+-- Bytes with one part too many, which has this number. Those before it can be read, and none is damaged.
+pub record PassesLimit (bytes : List ℕ) (part : ℕ) : Type 0 where
+  pub last : Reached
+  pub reached : parts_read bytes PARTS ≡ Some last
+  pub whole : damaged_part 0 (all_begun last.reading) ≡ None
+  pub more : 0 < length last.cut.left
+  pub part_is : part ≡ PARTS + 1

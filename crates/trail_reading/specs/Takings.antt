@@ -3,7 +3,7 @@ use Rattle.std.specs.Prelude.{◌≡◌, ℕ, Bool, true, false, Option, Some, N
 use Rattle.smart_base.specs.Cuts.{Cut}
 use Rattle.audit_rules.specs.declared.recorded.TheConstants.{PARTS}
 use Rattle.audit_rules.specs.declared.recorded.Reading.{Reading}
-use Rattle.audit_rules.specs.Readings.{Reached, next_part, parts_read}
+use Rattle.audit_rules.specs.Readings.{Reached, next_part, parts_read, Refuses}
 use Rattle.trail_reading.specs.declared.parts.Stop.{Stop}
 use Rattle.trail_reading.specs.declared.parts.Stop.TheVariants.{Done, Unreadable, Limit}
 use Rattle.trail_reading.specs.declared.parts.PartsRead.{PartsRead}
@@ -21,7 +21,7 @@ HasNext false old new = (next_part old ≡ None) × (new.reading ≡ old.reading
 -- why the reading of parts stopped, at what is left
 abbrev pub IsStop : Stop → ℕ → Reached → Type 0
 IsStop Done count x = length x.cut.left ≡ 0
-IsStop Unreadable count x = (0 < length x.cut.left) × (next_part x ≡ None)
+IsStop Unreadable count x = Refuses count x
 IsStop Limit count x = (0 < length x.cut.left) × (count ≡ PARTS)
 
 -- the parts of bytes that could be read, and why no more were
