@@ -215,7 +215,7 @@ all_sent trails t all =
     let secret = t.opening.secret in
     each_map (AreKnown (has_sent trails) secret) (λ bytes. Each (IsSent trails secret) (sealed_in (decoded bytes)))
     (λ bytes known. each_map (λ (s : Sealed). is_unsent (has_sent trails) secret s ≡ false) (IsSent trails secret)
-      (λ s is. known_sent (is_member s.who) (is_tag secret s.who s.text s.tag) (has_sent trails s) is) (sealed_in (decoded bytes)) known)
+    (λ s is. known_sent (is_member s.who) (is_tag secret s.who s.text s.tag) (has_sent trails s) is) (sealed_in (decoded bytes)) known)
     (arrivals t.events) all
 
 all_known : (trails : List Recorded) (t : Recorded) → AreSent trails t → Each (AreKnown (has_sent trails) t.opening.secret) (arrivals t.events)
@@ -223,7 +223,7 @@ all_known trails t all =
     let secret = t.opening.secret in
     each_map (λ bytes. Each (IsSent trails secret) (sealed_in (decoded bytes))) (AreKnown (has_sent trails) secret)
     (λ bytes sent. each_map (IsSent trails secret) (λ (s : Sealed). is_unsent (has_sent trails) secret s ≡ false)
-      (λ s is. sent_known (is_member s.who) (is_tag secret s.who s.text s.tag) (has_sent trails s) is) (sealed_in (decoded bytes)) sent)
+    (λ s is. sent_known (is_member s.who) (is_tag secret s.who s.text s.tag) (has_sent trails s) is) (sealed_in (decoded bytes)) sent)
     (arrivals t.events) all
 
 abbrev IsFine : (Sealed → Bool) → Recorded → Type 0

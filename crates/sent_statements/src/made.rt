@@ -35,12 +35,7 @@ pub type SentIndex = HashSet<Made>;
 
 impl Made {
     /// Copies of a statement's bytes and of its tag. Error: want of memory.
-    pub fn new(
-        alloc: Global,
-        member: MemberId,
-        text: &[u8],
-        tag: &[u8],
-    ) -> Result<Made, AllocError>
+    pub fn new(alloc: Global, member: MemberId, text: &[u8], tag: &[u8]) -> Result<Made, AllocError>
         ensures { IfOk result (λ m. made_sealed m ≡ record { who = Member member; text = text.now; tag = tag.now }) }
     {
         Ok(Made {

@@ -38,12 +38,7 @@ fn keep<S: Statement>(
 {
     if is_of(member, signed.party()) {
         let id = MemberId::new(member);
-        found.push(Made::new(
-            alloc,
-            id,
-            signed.bytes(),
-            signed.tag().as_slice(),
-        )?)?;
+        found.push(Made::new(alloc, id, signed.bytes(), signed.tag().as_slice())?)?;
     }
     Ok(())
 }
@@ -134,11 +129,7 @@ fn keep_trail(alloc: Global, trail: &Recorded, found: &mut Vec<Made>) -> Result<
 }
 
 /// Adds the statements that the members of trails have made.
-fn keep_trails(
-    alloc: Global,
-    trails: &[Recorded],
-    found: &mut Vec<Made>,
-) -> Result<(), AllocError>
+fn keep_trails(alloc: Global, trails: &[Recorded], found: &mut Vec<Made>) -> Result<(), AllocError>
     ensures { OnOk result (map made_sealed found.new.items ≡ map made_sealed found.old.items ++ flat_map made_by trails.now) }
 {
     for trail in trails {

@@ -31,11 +31,7 @@ pub struct PartsRead {
 /// Takes the next part of bytes. Answers whether it could be read; if not, the reading stays. Error: want
 /// of memory.
 #[tactic(auto, unfolding(audit_rules::specs::Readings::next_part, smart_base::specs::Cuts::contents))]
-fn take_next(
-    alloc: Global,
-    reading: &mut Reading,
-    cut: &mut Cursor<'_>,
-) -> Result<bool, AllocError>
+fn take_next(alloc: Global, reading: &mut Reading, cut: &mut Cursor<'_>) -> Result<bool, AllocError>
     ensures { IfOk result (λ taken. HasNext taken (record { reading = reading.old; cut = cut.old }) (record { reading = reading.new; cut = cut.new })) }
 {
     match cut.take_bytes() {

@@ -42,11 +42,7 @@ fn begin(alloc: Global, reading: &mut Reading, opening: TrailOpening) -> bool
     true
 }
 
-fn take_opening(
-    alloc: Global,
-    reading: &mut Reading,
-    bytes: &[u8],
-) -> Result<bool, AllocError>
+fn take_opening(alloc: Global, reading: &mut Reading, bytes: &[u8]) -> Result<bool, AllocError>
     ensures { IfOk result (λ taken. HasTaken taken (opening_taken reading.old (opening_decoded bytes.now)) reading.old reading.new) }
 {
     match decode_opening(alloc, bytes) {
@@ -104,11 +100,7 @@ fn is_end(event: &TrailEvent) -> bool
 }
 
 /// Adds an event to a trail that has begun. Error: want of memory.
-fn add_event(
-    reading: &mut Reading,
-    trail: Recorded,
-    event: TrailEvent,
-) -> Result<(), AllocError>
+fn add_event(reading: &mut Reading, trail: Recorded, event: TrailEvent) -> Result<(), AllocError>
     ensures { OnOk result (reading.new ≡ event_added reading.old trail event) }
 {
     let mut trail = trail;
@@ -124,11 +116,7 @@ fn add_event(
 }
 
 /// Takes an event that was read, of a trail that has begun.
-fn take_read(
-    reading: &mut Reading,
-    trail: Recorded,
-    event: TrailEvent,
-) -> Result<bool, AllocError>
+fn take_read(reading: &mut Reading, trail: Recorded, event: TrailEvent) -> Result<bool, AllocError>
     ensures { IfOk result (λ taken. HasTaken taken (event_taken reading.old trail (Ok event)) (record reading.old { begun = Some trail }) reading.new) }
 {
     if trail.opening.member == 0 && !may_happen(&event) {

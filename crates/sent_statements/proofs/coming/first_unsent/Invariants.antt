@@ -9,4 +9,4 @@ use Rattle.sent_statements.proofs.coming.first_unsent.Given as goal
 abbrev pub invariant-loop-item : goal.invariant-loop-item
 invariant-loop-item l =
     (sent : Sealed → Bool) → IsIndex (contains same_made l.index) sent →
-        first_of (is_unsent sent l.ring) l.item-iterator.rest.items ≡ first_of (is_unsent sent l.ring) l.fn.items.items
+    first_of (is_unsent sent l.ring) l.item-iterator.rest.items ≡ first_of (is_unsent sent l.ring) l.fn.items.items
