@@ -25,10 +25,9 @@ use Rattle.trail.specs.declared.opening.TrailOpening.{TrailOpening}
 use Rattle.trail_rules.specs.Replays.{Step, node_step, core_steps, after, replay, IsRelease, MayCome, Released}
 use Rattle.trail_rules.proofs.Grows.{replay-stands}
 use Rattle.audit_rules.specs.declared.recorded.Recorded.{Recorded}
-use Rattle.audit_rules.specs.declared.recorded.Post.{Post}
 use Rattle.audit_rules.specs.Audits.{first_node, parts_in, addressed_of, is_release, event_found, differing, member_difference}
 use Rattle.audit_rules.specs.Coherence.{IsNext, Leaves}
-use Rattle.audit_rules.specs.Quiets.{is_at_rest, sent_at, sent_from}
+use Rattle.audit_rules.specs.Quiets.{Post, is_at_rest, sent_at, sent_from}
 
 -- ---- what is released is next
 
@@ -121,4 +120,4 @@ module _ {S : Type 0} (m : Meaning S) where
   sent_stands core n (e ∷ events) stands =
       let here : view_of core ≡ view_of n = ap (λ c. view_of c) stands.same ∙ view_trimmed n in
       let rest = sent_stands (after (core_steps m) core e) (after (node_step m) n e) events (after_stands core n e stands) in
-      ap (λ v. sent_at v e ++ sent_from (core_steps m) (after (core_steps m) core e) events) here ∙ ap (λ (ps : List Post). sent_at (view_of n) e ++ ps) rest
+      ap (λ (v : View). sent_at v.members e ++ sent_from (core_steps m) (after (core_steps m) core e) events) here ∙ ap (λ (ps : List Post). sent_at (view_of n).members e ++ ps) rest

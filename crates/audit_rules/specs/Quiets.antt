@@ -18,7 +18,6 @@ use Rattle.trail.specs.declared.opening.App.{App}
 use Rattle.trail.specs.declared.opening.App.TheVariants as apps
 use Rattle.trail_rules.specs.Replays.{Step, node_step, after, replay, arrivals}
 use Rattle.audit_rules.specs.declared.recorded.Recorded.{Recorded}
-use Rattle.audit_rules.specs.declared.recorded.Post.{Post}
 use Rattle.audit_rules.specs.Audits.{first_node, is_client}
 
 -- ---- at rest
@@ -40,31 +39,36 @@ rests t = is_client t || rests_by t t.opening.app
 
 -- ---- what was sent, lost, and came
 
--- the receivers of a message: the numbers of their trails. A client's trail has the number 0.
-abbrev pub receivers : View → Target → List ℕ
-receivers view (targets.Node member) = member ∷ []
-receivers view (targets.Client client) = 0 ∷ []
-receivers view targets.View = view.members
+-- a message to one receiver: the number of the receiver's trail, and the message in its bytes
+pub record Post : Type 0 where
+  pub to : ℕ
+  pub text : List ℕ
+
+-- the receivers of a message, with the members of the sender's view: the numbers of their trails. A client's trail has the number 0.
+abbrev pub receivers : List ℕ → Target → List ℕ
+receivers members (targets.Node member) = member ∷ []
+receivers members (targets.Client client) = 0 ∷ []
+receivers members targets.View = members
 
 -- a message for each of its receivers
-abbrev pub posts : View → Addressed → List Post
-posts view a = map (λ (r : ℕ). record { to = r; text = spelling a.message }) (receivers view a.to)
+abbrev pub posts : List ℕ → Addressed → List Post
+posts members a = map (λ (r : ℕ). record { to = r; text = spelling a.message }) (receivers members a.to)
 
-abbrev pub sent_at : View → TrailEvent → List Post
-sent_at view (Happens event) = []
-sent_at view (Send a) = posts view a
-sent_at view (Lost a) = []
-sent_at view (Polls count) = []
-sent_at view End = []
+abbrev pub sent_at : List ℕ → TrailEvent → List Post
+sent_at members (Happens event) = []
+sent_at members (Send a) = posts members a
+sent_at members (Lost a) = []
+sent_at members (Polls count) = []
+sent_at members End = []
 
 -- what a member has sent, each message to the members of its view there
 abbrev pub sent_from : {S : Type 0} → Step S → Node S → List TrailEvent → List Post
 sent_from step n [] = []
-sent_from step n (e ∷ events) = sent_at (view_of n) e ++ sent_from step (after step n e) events
+sent_from step n (e ∷ events) = sent_at (view_of n).members e ++ sent_from step (after step n e) events
 
 -- what a client has sent
 abbrev pub client_sent : View → List TrailEvent → List Post
-client_sent view events = flat_map (sent_at view) events
+client_sent view events = flat_map (sent_at view.members) events
 
 abbrev pub sent_over : {S : Type 0} → Meaning S → Recorded → List Post
 sent_over m t = sent_from (node_step m) (first_node m t) t.events
@@ -80,7 +84,7 @@ posted t = if is_client t then client_sent t.opening.view t.events else sent_by 
 abbrev pub lost_at : TrailEvent → List Post
 lost_at (Happens event) = []
 lost_at (Send a) = []
-lost_at (Lost a) = posts (record { number = 0; start = 1; f = 0; members = [] }) a
+lost_at (Lost a) = posts [] a
 lost_at (Polls count) = []
 lost_at End = []
 

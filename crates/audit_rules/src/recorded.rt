@@ -42,19 +42,6 @@ impl Drop for Reading {
     }
 }
 
-/// A message to one receiver: the number of the receiver's trail, and the message in its bytes.
-pub struct Post {
-    pub to: u16,
-    pub text: Bytes,
-}
-
-/// Let go by one call, so that no function that lets one go carries the whole of it.
-impl Drop for Post {
-    fn drop(self) {
-        let Post { to: _, text: _ } = self;
-    }
-}
-
 /// What stands in a trail and has no right to.
 #[derive(Drop)]
 pub enum Found {
