@@ -1,9 +1,9 @@
 -- A core is audited as the node for which it stands.
 use Rattle.std.proofs.Common.{◌≡◌, ℕ, ◌+◌, Bool, true, List, [], ◌∷◌, ◌++◌, Option, Some, None, refl, ap, sym, ◌∙◌, length}
-use Rattle.std.specs.Prelude.{nat_eq}
 use Rattle.std.proofs.lemmas.Bool.{eq-eqb}
 use Rattle.smart_base.specs.Lists.{or_else, same_bytes}
 use Rattle.smart_base.specs.Views.{View}
+use Rattle.smart_messages.specs.declared.message.Message.{Message}
 use Rattle.smart_messages.specs.declared.message.Sealed.{Sealed}
 use Rattle.smart_service.specs.Services.{Meaning}
 use Rattle.smart_service.specs.declared.replica.Replica.{Replica}
@@ -11,11 +11,12 @@ use Rattle.vote_book.specs.declared.entry.LogEntry.{LogEntry}
 use Rattle.replica_rules.specs.Replicas.{after_batches}
 use Rattle.node_rules.specs.Decisions.{decided_of}
 use Rattle.node_rules.specs.Kept.{Stands, trimmed}
-use Rattle.node_rules.specs.Nodes.{Node, view_of, regency_of}
+use Rattle.node_rules.specs.Nodes.{Node, view_of}
 use Rattle.node_rules.specs.Steps.{Outset, opened, first_leaving}
 use Rattle.node_rules.specs.Reopening.{stopped, reopened, reopened_from, outset_from, entries_in}
 use Rattle.node_rules.specs.declared.node.Held.{Held}
 use Rattle.node_rules.specs.declared.node.Parts.{Parts}
+use Rattle.node_rules.specs.declared.node.Target.{Target}
 use Rattle.node_laws.proofs.Reopened.{reopened_is}
 use Rattle.trail.specs.Events.{addressed_text}
 use Rattle.trail.specs.declared.event.Addressed.{Addressed}
@@ -35,10 +36,14 @@ same_bytes-refl : (a : List ℕ) → same_bytes a a ≡ true
 same_bytes-refl [] = refl
 same_bytes-refl (x ∷ xs) = rw (eq-eqb x x refl, same_bytes-refl xs) refl
 
+-- a message to a receiver
+abbrev sends : Target → Message → Addressed
+sends to m = record { to = to; message = m }
+
 is_next_if : (a : Addressed) (next : Option Held) → IsRelease a next → is_release a next ≡ true
 is_next_if a None is = absurd is
 is_next_if a (Some h) is =
-    let same : addressed_of h ≡ a = cc in
+    let same : addressed_of h ≡ a = ap (λ to. sends to h.message) is.0 ∙ ap (λ (m : Message). sends a.to m) is.1 in
     ap (λ b. same_bytes (addressed_text b) (addressed_text a)) same ∙ same_bytes-refl (addressed_text a)
 
 next_if : {S : Type 0} (n : Node S) (e : TrailEvent) → MayCome n e → IsNext n e

@@ -1,5 +1,5 @@
 -- Where there is no difference, recorded runs are coherent, and the other way round.
-use Rattle.std.proofs.Common.{◌≡◌, ℕ, ◌+◌, Bool, true, false, cond, List, [], ◌∷◌, ◌++◌, Option, Some, None, refl, ap, sym, ◌∙◌}
+use Rattle.std.proofs.Common.{◌≡◌, ℕ, ◌+◌, Bool, true, false, cond, List, [], ◌∷◌, ◌++◌, Option, Some, None, refl}
 use Rattle.std.specs.Prelude.{◌&&◌, not, option_map}
 use Rattle.smart_base.specs.Lists.{Each, or_else}
 use Rattle.smart_statements.specs.declared.entry.NodeEvent.{NodeEvent}
@@ -22,8 +22,7 @@ use Rattle.trail_rules.specs.Replays.{Step, node_step, after, came_by, arrivals}
 use Rattle.audit_rules.specs.declared.recorded.Recorded.{Recorded}
 use Rattle.audit_rules.specs.declared.recorded.Found.{Found}
 use Rattle.audit_rules.specs.declared.recorded.Found.TheVariants as finds
-use Rattle.audit_rules.specs.declared.recorded.Difference.{Difference}
-use Rattle.audit_rules.specs.Audits.{first_node, is_client, is_release, sent_found, addressed_of, is_member, has_sent, is_unsent, first_of, sealed_in, stated_found, came_found, event_found, client_found, differing, member_difference, client_difference, app_difference, trail_difference, difference_in, first_difference}
+use Rattle.audit_rules.specs.Audits.{first_node, is_client, is_release, sent_found, addressed_of, is_member, has_sent, is_unsent, first_of, sealed_in, came_found, event_found, client_found, differing, member_difference, client_difference, app_difference, trail_difference, difference_in, first_difference}
 use Rattle.audit_rules.specs.Coherence.{IsNext, Leaves, LeavesBy, IsReplayed, IsSent, AreSent, Coherent}
 
 -- ---- options and lists
