@@ -1,10 +1,12 @@
 -- An index of statements says which were sent.
-use Rattle.std.proofs.Common.{◌≡◌, ℕ, Bool, true, false, cond, ◌||◌, ◌&&◌, List, [], ◌∷◌, map, Result, Ok, Err, IsOk, OnOk, OnErr, refl, ap, sym, ◌∙◌}
-use Rattle.std.specs.Prelude.{nat_eq, not, Option, Some, None, if◌then◌else◌}
+use Rattle.std.proofs.Common.{◌≡◌, ℕ, Bool, true, false, cond, ◌||◌, List, [], ◌∷◌, map, Result, Ok, Err, IsOk, OnOk, refl, ap, sym, ◌∙◌}
+use Rattle.std.specs.Prelude.{nat_eq, Option, Some}
 use Rattle.std.specs.Cmp.{nat_eq_equiv}
 use Rattle.std.specs.Cmp.Lexicographic.{pointwise}
 use Rattle.std.specs.List.{list_any}
 use Rattle.smart_base.specs.Lists.{same_bytes}
+use Rattle.smart_base.specs.declared.party.Party.{Party}
+use Rattle.smart_base.specs.declared.party.Party.TheVariants.{Member}
 use Rattle.smart_messages.specs.declared.message.Sealed.{Sealed}
 use Rattle.audit_rules.specs.Audits.{same_sealed, first_of}
 use Rattle.sent_statements.specs.declared.made.Made.{Made}
@@ -54,6 +56,15 @@ put-more same f g x rest all q total is more so_far =
 pub index_is : (has : Made → Bool) (found : List Made) (made : List Sealed) → map made_sealed found ≡ made
     → ((m : Made) → has m ≡ list_any (same_sealed (made_sealed m)) (map made_sealed found)) → IsIndex has (λ s. list_any (same_sealed s) made)
 index_is has found made are is = record { exact = λ m. is m ∙ ap (λ all. list_any (same_sealed (made_sealed m)) all) are }
+
+abbrev sealed_as : Party → List ℕ → List ℕ → Sealed
+sealed_as who text tag = record { who = who; text = text; tag = tag }
+
+-- a statement that was copied
+pub same_by : (m : Made) (s : Sealed) (member : ℕ) (text tag : List ℕ) → made_sealed m ≡ record { who = Member member; text = text; tag = tag } → s.who ≡ Member member → text ≡ s.text → tag ≡ s.tag
+    → made_sealed m ≡ s
+same_by m s member text tag is who text_is tag_is =
+    is ∙ (ap (λ w. sealed_as w text tag) (sym who) ∙ (ap (λ t. sealed_as s.who t tag) text_is ∙ ap (λ t. sealed_as s.who s.text t) tag_is))
 
 -- a look into the index tells whether a statement was sent
 pub told : (has : Made → Bool) (sent : Sealed → Bool) (m : Made) (s : Sealed) (is : Bool) → IsIndex has sent → made_sealed m ≡ s → is ≡ has m → is ≡ sent s
