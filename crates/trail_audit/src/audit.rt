@@ -42,7 +42,8 @@ fn trail_difference(
     ensures { (sent : Sealed → Bool) → IsIndex (contains same_made index.now) sent → IfOk result (λ d. d ≡ trail_difference sent trail.now) }
 {
     if trail.opening.member == 0 {
-        client_difference(alloc, index, &trail.opening, trail.events.as_slice())
+        let events = trail.events.as_slice();
+        client_difference(alloc, index, &trail.opening, events)
     } else {
         app_difference(alloc, index, trail, trail.opening.app)
     }
@@ -58,8 +59,10 @@ fn difference_in(
     ensures { (sent : Sealed → Bool) → IsIndex (contains same_made index.now) sent → IfOk result (λ d. d ≡ difference_in sent trails.now) }
 {
     for trail in trails {
-        if let Some(difference) = trail_difference(alloc, index, trail)? {
-            return Ok(Some(difference));
+        let told = trail_difference(alloc, index, trail)?;
+        match told {
+            None => {}
+            Some(difference) => return Ok(Some(difference)),
         }
     }
     Ok(None)

@@ -2,6 +2,4 @@
 #![tactic(auto)]
 
 pub mod audit;
-mod damage;
-pub mod reader;
 mod replay;

@@ -1,7 +1,11 @@
 //! How a member's trail is replayed, and what it has that no replay makes.
-ghost use Rattle.std.specs.Prelude.{◌≡◌, ◌<◌, ◌^◌, Bool, false, length, None, IfOk, OnOk};
+ghost use Rattle.std.specs.Prelude.{◌≡◌, ℕ, Bool, false, None, Some, IfOk, OnOk, IsErrOf};
 ghost use Rattle.std.specs.HashSet.{contains};
+ghost use Rattle.smart_base.specs.Lists.{same_bytes};
 ghost use Rattle.smart_messages.specs.declared.message.Sealed.{Sealed};
+ghost use Rattle.snapshot_form.specs.Snapshots.{snapshot_text};
+ghost use Rattle.replica_rules.specs.Replicas.{empty};
+ghost use Rattle.node_restart.specs.declared.fault.ReopenFault.TheVariants.{Damaged};
 ghost use Rattle.trail.specs.Events.{addressed_text};
 ghost use Rattle.trail_rules.specs.Replays.{core_steps, after};
 ghost use Rattle.audit_rules.specs.Audits.{checkpoint_in, parts_in, first_node, damage_over, addressed_of, sent_found, event_found, client_found, member_difference, client_difference, service_difference};
@@ -168,6 +172,17 @@ pub fn event_found<S: Service>(
     }
 }
 
+/// A difference at an event of a trail.
+fn difference(opening: &TrailOpening, event: u64, found: Found) -> Difference
+    ensures { result ≡ record { member = opening.now.member; event = event; found = found } }
+{
+    Difference {
+        member: opening.member,
+        event,
+        found,
+    }
+}
+
 /// The first difference among a member's events, from the node that a core stands for. Error: want of
 /// memory.
 fn member_difference<S: Service>(
@@ -182,13 +197,13 @@ fn member_difference<S: Service>(
 {
     let ring = ring_of(alloc, opening)?;
     let mut core = core;
-    for (number, event) in events.iter().enumerate() {
-        if let Some(found) = event_found(alloc, index, &ring, &mut core, event)? {
-            return Ok(Some(Difference {
-                member: opening.member,
-                event: number as u64 + 1,
-                found,
-            }));
+    let mut number = 0;
+    for event in events {
+        let told = event_found(alloc, index, &ring, &mut core, event)?;
+        number += 1;
+        match told {
+            None => {}
+            Some(found) => return Ok(Some(difference(opening, number, found))),
         }
     }
     Ok(None)
@@ -221,13 +236,13 @@ pub fn client_difference(
     ensures { (sent : Sealed → Bool) → IsIndex (contains same_made index.now) sent → IfOk result (λ d. d ≡ client_difference sent opening.now 0 events.now) }
 {
     let ring = ring_of(alloc, opening)?;
-    for (number, event) in events.iter().enumerate() {
-        if let Some(found) = client_found(alloc, index, &ring, event)? {
-            return Ok(Some(Difference {
-                member: opening.member,
-                event: number as u64 + 1,
-                found,
-            }));
+    let mut number = 0;
+    for event in events {
+        let told = client_found(alloc, index, &ring, event)?;
+        number += 1;
+        match told {
+            None => {}
+            Some(found) => return Ok(Some(difference(opening, number, found))),
         }
     }
     Ok(None)
@@ -243,7 +258,11 @@ pub fn service_difference<S: Service>(
     ensures { (sent : Sealed → Bool) → IsIndex (contains same_made index.now) sent → IfOk result (λ d. d ≡ service_difference S.meaning sent trail.now) }
 {
     match open::<S>(alloc, trail) {
-        Ok(core) => member_difference(alloc, index, &trail.opening, core, trail.events.as_slice()),
+        Ok(core) => {
+            let events = trail.events.as_slice();
+            let told = member_difference(alloc, index, &trail.opening, core, events)?;
+            Ok(told)
+        }
         Err(ReopenFault::NoMemory) => Err(AllocError),
         Err(ReopenFault::Damaged { entry: _ }) => unreachable!(),
     }
