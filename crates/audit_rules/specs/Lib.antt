@@ -1,0 +1,4 @@
+pub mod Audits
+pub mod Coherence
+pub mod Quiets
+pub mod Readings
