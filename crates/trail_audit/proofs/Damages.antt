@@ -1,5 +1,5 @@
 -- The walk over trails finds the first damaged part.
-use Rattle.std.proofs.Common.{◌≡◌, ℕ, ◌+◌, List, [], ◌∷◌, Option, Some, None, refl, ap, sym, ◌∙◌}
+use Rattle.std.proofs.Common.{◌≡◌, ℕ, ◌+◌, List, ◌∷◌, Option, Some, None, ap, sym, ◌∙◌}
 use Rattle.std.specs.Prelude.{option_map}
 use Rattle.smart_base.specs.Lists.{or_else}
 use Rattle.audit_rules.specs.declared.recorded.Recorded.{Recorded}

@@ -1,17 +1,14 @@
 -- What parts that were read say of bytes.
-use Rattle.std.proofs.Common.{◌≡◌, ◌⊎◌, inl, inr, ◌<◌, ℕ, ◌+◌, Bool, true, false, cond, List, [], ◌∷◌, ◌++◌, length, Option, Some, None, refl, ap, sym, subst, ◌∙◌, append-nil}
+use Rattle.std.proofs.Common.{◌≡◌, ◌⊎◌, inl, inr, ℕ, ◌+◌, Bool, true, false, cond, List, [], ◌∷◌, ◌++◌, length, Option, Some, None, refl, ap, sym, subst, ◌∙◌, append-nil}
 use Rattle.std.specs.Prelude.{option_map, is_some, option_to_list}
-use Rattle.smart_base.specs.Cuts.{Cut}
 use Rattle.smart_base.specs.Lists.{or_else, Each}
 use Rattle.audit_rules.specs.declared.recorded.Recorded.{Recorded}
 use Rattle.audit_rules.specs.declared.recorded.Reading.{Reading}
-use Rattle.audit_rules.specs.declared.recorded.TheConstants.{PARTS}
 use Rattle.audit_rules.specs.Audits.{is_client, damage_by, CanBegin}
-use Rattle.audit_rules.specs.Readings.{Reached, unread, after_parts, parts_read, damage_in, part_count, damaged_part, all_begun, AreRead, Lacks, Refuses, StopsAt, PassesLimit}
+use Rattle.audit_rules.specs.Readings.{Reached, parts_read, damage_in, part_count, damaged_part, all_begun, AreRead, Lacks, Refuses, StopsAt}
 use Rattle.trail_reading.specs.Takings.{IsStop, IsRead}
 use Rattle.trail_reading.specs.declared.parts.Stop.{Stop}
 use Rattle.trail_reading.specs.declared.parts.Stop.TheVariants as stops
-use Rattle.trail_reading.specs.declared.parts.PartsRead.{PartsRead}
 use Rattle.trail_audit.specs.declared.reader.ReadingFault.{ReadingFault}
 use Rattle.trail_audit.specs.declared.reader.ReadingFault.TheVariants.{Empty, Form, Limit, NoMemory}
 use Rattle.trail_audit.specs.Faults.{IsFault, IsWhole, IsWhy}

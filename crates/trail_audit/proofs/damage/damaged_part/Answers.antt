@@ -1,4 +1,4 @@
-use Rattle.std.proofs.Common.{◌≡◌, ◌∷◌, ◌∙◌, ◌+◌, drop, sym, ap, List}
+use Rattle.std.proofs.Common.{◌∷◌, ◌∙◌, ◌+◌, drop, sym, ap, List}
 use Rattle.std.proofs.lemmas.List.{drop_more}
 use Rattle.audit_rules.specs.declared.recorded.Recorded.{Recorded}
 use Rattle.trail_audit.proofs.Damages.{damage-more, damage-found}
