@@ -1,5 +1,5 @@
 -- The walk over trails finds the first difference.
-use Rattle.std.proofs.Common.{◌≡◌, ℕ, ◌+◌, Bool, List, [], ◌∷◌, Option, Some, None, refl, ap, sym, ◌∙◌}
+use Rattle.std.proofs.Common.{◌≡◌, ℕ, ◌+◌, Bool, List, ◌∷◌, Option, Some, None, ap, sym, ◌∙◌}
 use Rattle.smart_base.specs.Lists.{or_else, Each}
 use Rattle.smart_messages.specs.declared.message.Sealed.{Sealed}
 use Rattle.smart_service.specs.Services.{Meaning}

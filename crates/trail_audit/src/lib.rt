@@ -2,4 +2,6 @@
 #![tactic(auto)]
 
 pub mod audit;
+mod damage;
+pub mod reader;
 mod replay;

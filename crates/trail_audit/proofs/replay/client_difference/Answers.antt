@@ -1,4 +1,4 @@
-use Rattle.std.proofs.Common.{◌≡◌, ◌∷◌, ◌∙◌, ◌+◌, drop, sym, ap, List, Option, Some}
+use Rattle.std.proofs.Common.{◌∷◌, ◌∙◌, ◌+◌, drop, sym, ap, List, Some}
 use Rattle.std.proofs.lemmas.List.{drop_more}
 use Rattle.trail.specs.declared.event.TrailEvent.{TrailEvent}
 use Rattle.audit_rules.specs.declared.recorded.Difference.{Difference}
