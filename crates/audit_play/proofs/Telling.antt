@@ -5,7 +5,6 @@ use Rattle.audit_rules.specs.Audits.{first_difference, verdict_of}
 use Rattle.audit_rules.specs.Readings.{AreRead}
 use Rattle.audit_rules.specs.declared.recorded.Recorded.{Recorded}
 use Rattle.audit_rules.specs.declared.recorded.Difference.{Difference}
-use Rattle.audit_rules.specs.declared.recorded.Verdict.{Verdict}
 use Rattle.audit_rules.specs.declared.recorded.Verdict.TheVariants as verdicts
 use Rattle.audit_rules.proofs.Differences.{coherent_if, if_coherent}
 use Rattle.audit_play.specs.Texts.{verdict_text}

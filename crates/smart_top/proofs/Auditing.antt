@@ -4,7 +4,7 @@ use Rattle.script_play.specs.declared.status.Status.TheVariants as ends
 use Rattle.audit_play.specs.declared.status.AuditStatus.{AuditStatus}
 use Rattle.audit_play.specs.declared.status.AuditStatus.TheVariants as audits
 use Rattle.smart_top.specs.Audits.{status_of, AuditEnd}
-use Rattle.smart_top.proofs.Ending.{appends-nothing}
+use Rattle.audit_play.proofs.Consumed.{appends-nothing}
 
 -- it had no memory before it read anything
 pub unread_audit : (left written : Option (List ℕ)) (wants : ℕ) → AuditEnd left left written written wants wants ends.NoMemory
