@@ -1,3 +1,4 @@
+mod AuditRows
 mod Parsing
 mod Refusals
 mod Rows

@@ -25,6 +25,10 @@ count_rule = record (new_rule (codes "N")) { required = true }
 abbrev pub load_shape : Shape
 load_shape = record (new_shape (codes "load")) { rules = count_rule ∷ [] }
 
+-- the subcommand `audit`: no arguments
+abbrev pub audit_shape : Shape
+audit_shape = new_shape (codes "audit")
+
 -- the program before its subcommands: its name is no word, and one word has to be a subcommand
 abbrev pub bare_program : App
 bare_program = record {
@@ -34,7 +38,7 @@ bare_program = record {
 
 -- the program with its subcommands
 abbrev pub program : App
-program = with_subcommand (with_subcommand bare_program world_shape) load_shape
+program = with_subcommand (with_subcommand (with_subcommand bare_program world_shape) load_shape) audit_shape
 
 -- the load of a number of asks, if it is one of 1 to 100,000
 abbrev pub load_with : Option ℕ → Option Command
@@ -51,6 +55,7 @@ abbrev pub command_named : Text → List Row → Option Command
 command_named name rows =
     if bytes_eq name (codes "world") then Some commands.World
     else if bytes_eq name (codes "load") then load_of (first_of (codes "N") rows)
+    else if bytes_eq name (codes "audit") then Some commands.Audit
     else None
 
 -- the command of the subcommand that words name, if they name one

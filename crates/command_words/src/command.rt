@@ -3,7 +3,7 @@ ghost use Rattle.std.specs.Prelude.{◌≡◌, IfOk, IfErr, Some, codes, false, 
 ghost use Rattle.clap.specs.Words.{FailsBy, app_of, fault_of, found_of, kind_of, rows_of, rule_of, shape_of, subcommand_of, subcommand_rows_of, with_subcommand};
 ghost use Rattle.clap.specs.declared.builder.command.Command.TheViews.{out-Command};
 ghost use Rattle.clap.specs.Walk.{first_of};
-ghost use Rattle.command_words.specs.Commands.{Answers, Refuses, bare_program, command_in, command_of, count_rule, is_shown, load_of, load_shape, load_with, program, world_shape};
+ghost use Rattle.command_words.specs.Commands.{Answers, Refuses, audit_shape, bare_program, command_in, command_of, count_rule, is_shown, load_of, load_shape, load_with, program, world_shape};
 
 use clap::error::ErrorKind;
 use clap::{Arg, ArgMatches, Command as Parser, Error};
@@ -18,6 +18,8 @@ pub enum Command {
     World,
     /// `load N`: plays the script of a load of N asks, 1 to 100,000.
     Load { count: u32 },
+    /// `audit`: audits the recorded runs of the input.
+    Audit,
 }
 
 /// The reason for which words are no command.
@@ -94,13 +96,24 @@ fn with_load<'a>(alloc: Global, parser: Parser<'a>) -> Result<Parser<'a>, AllocE
     parser.subcommand(load)
 }
 
+/// Adds the subcommand `audit`. Error: want of memory.
+fn with_audit<'a>(alloc: Global, parser: Parser<'a>) -> Result<Parser<'a>, AllocError>
+    ensures { IfOk result (λ more. app_of more ≡ with_subcommand (app_of parser.entry) audit_shape) }
+{
+    let audit = Parser::new(alloc, "audit")
+        .about("Read trails from standard input and say whether they are coherent")
+        .after_help("Example:\n  cat DIR/n*.trail | smart audit");
+    parser.subcommand(audit)
+}
+
 /// The parser of the program's words. Error: want of memory.
 fn program_parser<'a>(alloc: Global) -> Result<Parser<'a>, AllocError>
     ensures { IfOk result (λ parser. app_of parser ≡ program) }
 {
     let parser = named_parser(alloc)?;
     let parser = with_world(alloc, parser)?;
-    with_load(alloc, parser)
+    let parser = with_load(alloc, parser)?;
+    with_audit(alloc, parser)
 }
 
 /// The load of a number of asks, if it is in range.
@@ -133,6 +146,7 @@ fn command_met(matches: &ArgMatches<'_>) -> Option<Command>
     match matches.subcommand() {
         Some(("world", _)) => Some(Command::World),
         Some(("load", found)) => load_met(found),
+        Some(("audit", _)) => Some(Command::Audit),
         _ => None,
     }
 }

@@ -1,7 +1,7 @@
 //! Laws of words. They speak of the definitions alone.
 ghost use Rattle.std.specs.Prelude.{◌≡◌, [], ◌∷◌, codes, Some, None, true};
 ghost use Rattle.command_words.specs.Commands.{IsShown, IsWrong, command_of, may_show};
-ghost use Rattle.command_words.specs.declared.command.Command.TheVariants.{World, Load};
+ghost use Rattle.command_words.specs.declared.command.Command.TheVariants.{World, Load, Audit};
 
 /// The words that are the command `world`: this word, and also with the mark `--`, behind which it
 /// takes nothing.
@@ -60,4 +60,26 @@ pub fn other_numbers_are_no_load()
     ensures empty_number { IsWrong (codes "load" ∷ [] ∷ []) }
     ensures more { IsWrong (codes "load" ∷ codes "1" ∷ codes "2" ∷ []) }
     ensures option { IsWrong (codes "load" ∷ codes "--N=1" ∷ []) }
+{}
+
+/// The words that are the command `audit`: this word, and also with the mark `--`, behind which it
+/// takes nothing.
+pub fn audit_is_a_command()
+    ensures alone { command_of (codes "audit" ∷ []) ≡ Some Audit }
+    ensures marked { command_of (codes "audit" ∷ codes "--" ∷ []) ≡ Some Audit }
+{}
+
+/// Words that begin with `audit` and are no command. To the forms of help and of the version the parser
+/// answers with its text.
+pub fn other_audits_are_no_command()
+    ensures help { IsShown (codes "audit" ∷ codes "--help" ∷ []) }
+    ensures version { IsShown (codes "audit" ∷ codes "-V" ∷ []) }
+    ensures capital { IsWrong (codes "Audit" ∷ []) }
+    ensures longer { IsWrong (codes "audits" ∷ []) }
+    ensures more { IsWrong (codes "audit" ∷ codes "now" ∷ []) }
+    ensures twice { IsWrong (codes "audit" ∷ codes "audit" ∷ []) }
+    ensures other_command { IsWrong (codes "audit" ∷ codes "world" ∷ []) }
+    ensures behind_the_mark { IsWrong (codes "--" ∷ codes "audit" ∷ []) }
+    ensures option { IsWrong (codes "audit" ∷ codes "--dir" ∷ codes "D" ∷ []) }
+    ensures flag { IsWrong (codes "audit" ∷ codes "-x" ∷ []) }
 {}

@@ -12,4 +12,5 @@ code_of ends.ReadFault = 4
 code_of ends.WriteFault = 5
 code_of (ends.Premise line which) = 7
 code_of (ends.Limit line) = 8
+code_of (ends.Differs kind member event) = 9
 code_of ends.NoMemory = 11

@@ -16,23 +16,47 @@ pub enum Refusal {
     Limit,
 }
 
-/// The status of a run. Lines are counted from 1.
+/// What an event of a trail has and has no right to.
+#[derive(Clone, Copy, Debug, PartialEq, Eq)]
+pub enum DifferenceKind {
+    /// A message was sent that is not the next one that leaves.
+    Sent,
+    /// A statement of a member came that the member has not sent.
+    Stated,
+}
+
+/// The status of a run. Lines and the parts of trails are counted from 1.
 #[derive(Clone, Copy, Debug, PartialEq, Eq)]
 pub enum Status {
     /// The input was played to its end.
     Ok,
     /// The words are no command.
     Words,
-    /// This line of the script has no meaning, or the input ended before it with no whole header.
-    Script { line: u64, kind: Kind },
+    /// This line of the script has no meaning, or the input ended before it with no whole header. Of
+    /// trails: this part is lacking or has no meaning.
+    Script {
+        line: u64,
+        kind: Kind,
+    },
     /// The input failed.
     ReadFault,
     /// The output failed.
     WriteFault,
     /// A premise of the promise does not hold in the play of this line.
-    Premise { line: u64, which: Premise },
-    /// This line would pass the greatest number of lines or of messages.
-    Limit { line: u64 },
+    Premise {
+        line: u64,
+        which: Premise,
+    },
+    /// This line would pass the greatest number of lines or of messages, or this part that of parts.
+    Limit {
+        line: u64,
+    },
+    /// The trails are not coherent: first at this event of the trail that this number has.
+    Differs {
+        kind: DifferenceKind,
+        member: u16,
+        event: u64,
+    },
     /// Want of memory.
     NoMemory,
 }
@@ -50,6 +74,7 @@ impl Status {
             Status::WriteFault => 5,
             Status::Premise { .. } => 7,
             Status::Limit { .. } => 8,
+            Status::Differs { .. } => 9,
             Status::NoMemory => 11,
         }
     }

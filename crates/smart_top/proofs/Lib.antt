@@ -1,3 +1,4 @@
+pub mod Auditing
 pub mod ReadingCores
 pub mod ReadingPlays
 pub mod ReadingTells

@@ -205,4 +205,5 @@ is_complete n written now wants wants' ends.ReadFault e whole fine = absurd e
 is_complete n written now wants wants' ends.WriteFault e whole fine = absurd (fine refl)
 is_complete n written now wants wants' (ends.Premise line which) e whole fine = absurd (none-refused (load_read node_courses n).refused whole e.refused)
 is_complete n written now wants wants' (ends.Limit line) e whole fine = absurd (none-refused (load_read node_courses n).refused whole e.refused)
+is_complete n written now wants wants' (ends.Differs kind member event) e whole fine = absurd e
 is_complete n written now wants wants' ends.NoMemory e whole fine = inr refl

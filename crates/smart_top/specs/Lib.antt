@@ -1,3 +1,4 @@
 pub mod Feeds
 pub mod Runs
 pub mod Loads
+pub mod Audits

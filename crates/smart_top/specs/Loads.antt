@@ -73,4 +73,5 @@ LoadEnd n written written' wants wants' ends.ReadFault = ⊥
 LoadEnd n written written' wants wants' ends.WriteFault = WroteSummaryFront n written written'
 LoadEnd n written written' wants wants' (ends.Premise line which) = RefusedLine n written written' (ends.Premise line which)
 LoadEnd n written written' wants wants' (ends.Limit line) = RefusedLine n written written' (ends.Limit line)
+LoadEnd n written written' wants wants' (ends.Differs kind member event) = ⊥
 LoadEnd n written written' wants wants' ends.NoMemory = Appends written written' [] ⊎ (Rose wants wants' × WroteSummaryFront n written written')

@@ -1,6 +1,7 @@
 //! The top call: from a program's words and input to its output and status.
 #![tactic(auto)]
 
+pub mod audit;
 pub mod laws;
 pub mod load;
 pub mod reader;

@@ -50,6 +50,7 @@ fn text_of(alloc: Global, status: Status) -> Result<String, AllocError> {
             text.push_str("\n")?;
         }
         Status::Limit { line } => write!(&mut text, "smart: line {line}: limit\n")?,
+        Status::Differs { .. } => text.push_str("smart: differs\n")?,
         Status::NoMemory => text.push_str("smart: no memory\n")?,
     }
     Ok(text)

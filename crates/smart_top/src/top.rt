@@ -7,8 +7,10 @@ ghost use Rattle.script_play.specs.Readings.{script_lines, whole_lines};
 ghost use Rattle.smart_top.specs.Feeds.{HasTaken, GoesOn, GoesOnBehind, halt_end};
 ghost use Rattle.smart_top.specs.Runs.{IsLeft, RunEnd};
 ghost use Rattle.smart_top.specs.Loads.{load_read, LoadEnd};
+ghost use Rattle.smart_top.specs.Audits.{AuditEnd};
 ghost use Rattle.command_words.specs.Commands.{command_of};
 
+use crate::audit::audit;
 use crate::load::load;
 use crate::reader::{Halt, Reader, end_line, feed, write_lines};
 use crate::report::report;
@@ -138,7 +140,7 @@ pub fn play_script<I: Source, O: Sink>(alloc: Global, input: &mut I, output: &mu
 }
 
 /// Does what the words say, and writes to `errors` what the parser shows of words that are no command.
-#[tactic(auto, using(crate::proofs::Ending::unread_run, crate::proofs::Loading::unread_load, crate::proofs::Loading::is_complete))]
+#[tactic(auto, using(crate::proofs::Ending::unread_run, crate::proofs::Loading::unread_load, crate::proofs::Loading::is_complete, crate::proofs::Auditing::unread_audit))]
 fn obey<I: Source, O: Sink, E: Sink>(
     alloc: Global,
     words: &[String],
@@ -152,12 +154,14 @@ fn obey<I: Source, O: Sink, E: Sink>(
     ensures ended { command_of (map string_bytes words.now) ≡ Some Command.World → RunEnd (I.left input.old) (I.left input.new) (O.written output.old) (O.written output.new) (O.wants output.old) (O.wants output.new) result }
     ensures load { (n : ℕ) → command_of (map string_bytes words.now) ≡ Some (Command.Load n) → (input.new ≡ input.old) × LoadEnd n (O.written output.old) (O.written output.new) (O.wants output.old) (O.wants output.new) result }
     ensures complete { (n : ℕ) → command_of (map string_bytes words.now) ≡ Some (Command.Load n) → (load_read node_courses n).refused ≡ None → (Rose (O.faults output.old) (O.faults output.new) → ⊥) → (result ≡ Status.Ok) ⊎ (result ≡ Status.NoMemory) }
+    ensures audit { command_of (map string_bytes words.now) ≡ Some Command.Audit → AuditEnd (I.left input.old) (I.left input.new) (O.written output.old) (O.written output.new) (O.wants output.old) (O.wants output.new) result }
     ensures read { result ≡ Status.ReadFault → Rose (I.faults input.old) (I.faults input.new) }
     ensures write { result ≡ Status.WriteFault → Rose (O.faults output.old) (O.faults output.new) }
 {
     match read_words(alloc, words) {
         Ok(Command::World) => play_script(alloc, input, output),
         Ok(Command::Load { count }) => load(alloc, count, output),
+        Ok(Command::Audit) => audit(alloc, input, output),
         Err(NoCommand::Shown(text)) => {
             let _ = write_all(errors, text.as_bytes());
             Status::Words
@@ -168,7 +172,9 @@ fn obey<I: Source, O: Sink, E: Sink>(
 }
 
 /// Runs the program. `world` reads a script from the input and writes its transcript to the output.
-/// `load N` plays the script of a load of N asks and writes the totals of its play.
+/// `load N` plays the script of a load of N asks and writes the totals of its play. `audit` reads trails
+/// from the input, and writes whether they are coherent, or their first difference from what the rules of
+/// their members make.
 /// For each status other than `Ok` a line is written to `errors`; a failure there changes nothing.
 /// Before it stands what the parser shows of words that ask for help or for the version, or of none.
 ///
@@ -209,6 +215,8 @@ pub fn run<H, I: Source, O: Sink, E: Sink>(
     ensures load { (n : ℕ) → command_of (map string_bytes words.now) ≡ Some (Command.Load n) → (input.new ≡ input.old) × LoadEnd n (O.written output.old) (O.written output.new) (O.wants output.old) (O.wants output.new) result }
     // `load` is complete: if no line of its script is refused and the output does not fail, it ends well, or for want of memory.
     ensures complete { (n : ℕ) → command_of (map string_bytes words.now) ≡ Some (Command.Load n) → (load_read node_courses n).refused ≡ None → (Rose (O.faults output.old) (O.faults output.new) → ⊥) → (result ≡ Status.Ok) ⊎ (result ≡ Status.NoMemory) }
+    // What `audit` has read and written, by the status: the line that tells what it finds in the trails of its whole input.
+    ensures audit { command_of (map string_bytes words.now) ≡ Some Command.Audit → AuditEnd (I.left input.old) (I.left input.new) (O.written output.old) (O.written output.new) (O.wants output.old) (O.wants output.new) result }
     // A fault of input or output: its count rose.
     ensures read { result ≡ Status.ReadFault → Rose (I.faults input.old) (I.faults input.new) }
     ensures write { result ≡ Status.WriteFault → Rose (O.faults output.old) (O.faults output.new) }

@@ -22,6 +22,7 @@ fn main(rt: HostRuntime) -> io::Result<()> {
         match read_words(rt.alloc(), words.as_slice()) {
             Ok(Command::World) => println!(rt; "the command world")?,
             Ok(Command::Load { count }) => println!(rt; "the command load {count}")?,
+            Ok(Command::Audit) => println!(rt; "the command audit")?,
             Err(NoCommand::Shown(text)) => println!(rt; "shown:\n{text}")?,
             Err(NoCommand::Wrong) => println!(rt; "wrong")?,
             Err(NoCommand::NoMemory) => println!(rt; "no memory")?,

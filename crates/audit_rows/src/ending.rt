@@ -1,0 +1,52 @@
+//! How an audit ends: its exit status, what it wrote, and what it said.
+use crate::fault::RowFault;
+use hex::FromHexError;
+use smart_io::memory::{MemSink, MemSource};
+use smart_top::audit::audit;
+use smart_top::report::report;
+use std::alloc::{AllocError, Global};
+use std::fmt::Write;
+
+/// How an audit ended, in one line: its exit status, what it wrote, and what it said; `-` for nothing.
+#[derive(Drop)]
+pub struct Ending {
+    pub text: String,
+}
+
+/// The bytes of a word; none of `-`.
+pub fn bytes_of(alloc: Global, word: &str) -> Result<Vec<u8>, RowFault> {
+    if word == "-" {
+        return Ok(Vec::new(alloc));
+    }
+    match hex::decode(alloc, word) {
+        Ok(bytes) => Ok(bytes),
+        Err(FromHexError::OutOfMemory) => Err(RowFault::NoMemory),
+        Err(_) => Err(RowFault::Word),
+    }
+}
+
+/// Adds bytes that were written, behind a space. Error: want of memory.
+fn put_bytes(text: &mut String, bytes: &[u8]) -> Result<(), AllocError> {
+    if bytes.is_empty() {
+        text.push_str(" -")?;
+        return Ok(());
+    }
+    let escaped = bytes.escape_ascii();
+    write!(text, " {escaped}")
+}
+
+/// Audits bytes.
+pub fn ending_of(alloc: Global, bytes: &[u8]) -> Result<Ending, RowFault> {
+    let bytes = Vec::from_slice(alloc, bytes)?;
+    let mut input = MemSource::new(bytes, Vec::new(alloc));
+    let mut output = MemSink::new(Vec::new(alloc), Vec::new(alloc));
+    let mut errors = MemSink::new(Vec::new(alloc), Vec::new(alloc));
+    let status = audit(alloc, &mut input, &mut output);
+    report(alloc, &mut errors, status);
+    let code = status.code();
+    let mut text = String::new(alloc);
+    write!(&mut text, "{code}")?;
+    put_bytes(&mut text, output.bytes.as_slice())?;
+    put_bytes(&mut text, errors.bytes.as_slice())?;
+    Ok(Ending { text })
+}

@@ -1,0 +1,47 @@
+//! Why a row was not tried.
+use std::alloc::{AllocError, AllocFailed};
+use std::io;
+
+/// Why a row was not tried.
+#[derive(Debug, Drop)]
+pub enum RowFault {
+    /// Memory ran out.
+    NoMemory,
+    /// A word of the row has no meaning.
+    Word,
+    /// The input could not be read, or nothing could be said.
+    Output(io::Error),
+}
+
+impl From<AllocError> for RowFault {
+    ghost use Rattle.std.specs.Prelude.{◌≡◌};
+    ghost use Rattle.audit_rows.specs.declared.fault.RowFault.TheVariants.{NoMemory};
+
+    ghost from_gives = { λ _ e. e ≡ NoMemory };
+
+    fn from(_: AllocError) -> RowFault {
+        RowFault::NoMemory
+    }
+}
+
+impl<T: Drop> From<AllocFailed<T>> for RowFault {
+    ghost use Rattle.std.specs.Prelude.{◌≡◌};
+    ghost use Rattle.audit_rows.specs.declared.fault.RowFault.TheVariants.{NoMemory};
+
+    ghost from_gives = { λ _ e. e ≡ NoMemory };
+
+    fn from(_: AllocFailed<T>) -> RowFault {
+        RowFault::NoMemory
+    }
+}
+
+impl From<io::Error> for RowFault {
+    ghost use Rattle.std.specs.Prelude.{◌≡◌};
+    ghost use Rattle.audit_rows.specs.declared.fault.RowFault.TheVariants.{Output};
+
+    ghost from_gives = { λ error e. e ≡ Output error };
+
+    fn from(error: io::Error) -> RowFault {
+        RowFault::Output(error)
+    }
+}
