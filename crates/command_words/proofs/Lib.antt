@@ -1,4 +1,6 @@
 mod AuditRows
+mod NodeRows
+mod Optioned
 mod Parsing
 mod Refusals
 mod Rows

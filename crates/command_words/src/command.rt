@@ -1,10 +1,15 @@
 //! The commands of the program `smart`, and the reading of the words that name them.
-ghost use Rattle.std.specs.Prelude.{◌≡◌, IfOk, IfErr, Some, codes, false, map, string_bytes};
+ghost use Rattle.std.specs.Prelude.{◌≡◌, IfOk, IfErr, IfSome, Some, codes, false, map, option_map, string_bytes};
 ghost use Rattle.clap.specs.Words.{FailsBy, app_of, fault_of, found_of, kind_of, rows_of, rule_of, shape_of, subcommand_of, subcommand_rows_of, with_subcommand};
 ghost use Rattle.clap.specs.declared.builder.command.Command.TheViews.{out-Command};
 ghost use Rattle.clap.specs.Walk.{first_of};
 ghost use Rattle.command_words.specs.Commands.{Answers, Refuses, audit_shape, bare_program, command_in, command_of, count_rule, is_shown, load_of, load_shape, load_with, program, world_shape};
+ghost use Rattle.command_words.specs.Ranges.{FitsCommand};
+ghost use Rattle.command_words.specs.Options.{node_shape, node_of};
 
+use crate::node_options::node_parser;
+use crate::node_values::node_met;
+use crate::node_words::NodeWords;
 use clap::error::ErrorKind;
 use clap::{Arg, ArgMatches, Command as Parser, Error};
 use smart_base::decimal::number_of;
@@ -12,12 +17,14 @@ use std::alloc::{AllocError, Global};
 use std::fmt::Write;
 
 /// A command of the program.
-#[derive(Clone, Copy, Debug, PartialEq, Eq)]
+#[derive(Drop)]
 pub enum Command {
     /// `world`: plays the script of the input.
     World,
     /// `load N`: plays the script of a load of N asks, 1 to 100,000.
     Load { count: u32 },
+    /// `node`: runs one member of a group over frames.
+    Node(NodeWords),
     /// `audit`: audits the recorded runs of the input.
     Audit,
 }
@@ -96,6 +103,14 @@ fn with_load<'a>(alloc: Global, parser: Parser<'a>) -> Result<Parser<'a>, AllocE
     parser.subcommand(load)
 }
 
+/// Adds the subcommand `node`. Error: want of memory.
+fn with_node<'a>(alloc: Global, parser: Parser<'a>) -> Result<Parser<'a>, AllocError>
+    ensures { IfOk result (λ more. app_of more ≡ with_subcommand (app_of parser.entry) node_shape) }
+{
+    let node = node_parser(alloc)?;
+    parser.subcommand(node)
+}
+
 /// Adds the subcommand `audit`. Error: want of memory.
 fn with_audit<'a>(alloc: Global, parser: Parser<'a>) -> Result<Parser<'a>, AllocError>
     ensures { IfOk result (λ more. app_of more ≡ with_subcommand (app_of parser.entry) audit_shape) }
@@ -113,6 +128,7 @@ fn program_parser<'a>(alloc: Global) -> Result<Parser<'a>, AllocError>
     let parser = named_parser(alloc)?;
     let parser = with_world(alloc, parser)?;
     let parser = with_load(alloc, parser)?;
+    let parser = with_node(alloc, parser)?;
     with_audit(alloc, parser)
 }
 
@@ -139,15 +155,28 @@ fn load_met(matches: &ArgMatches<'_>) -> Option<Command>
     load_with(count)
 }
 
-/// The command that the parser has met.
-fn command_met(matches: &ArgMatches<'_>) -> Option<Command>
-    ensures { result ≡ command_in (subcommand_rows_of matches.now) }
+/// The node that the arguments of the subcommand `node` are, if they are one. Error: want of memory.
+fn node_command(alloc: Global, found: &ArgMatches<'_>) -> Result<Option<Command>, AllocError>
+    ensures is { IfOk result (λ command. command ≡ option_map Command.Node (node_of (rows_of (found_of found.now)))) }
+    ensures fits { IfOk result (λ command. IfSome command FitsCommand) }
+{
+    match node_met(alloc, found)? {
+        Some(node) => Ok(Some(Command::Node(node))),
+        None => Ok(None),
+    }
+}
+
+/// The command that the parser has met. Error: want of memory.
+fn command_met(alloc: Global, matches: &ArgMatches<'_>) -> Result<Option<Command>, AllocError>
+    ensures is { IfOk result (λ command. command ≡ command_in (subcommand_rows_of matches.now)) }
+    ensures fits { IfOk result (λ command. IfSome command FitsCommand) }
 {
     match matches.subcommand() {
-        Some(("world", _)) => Some(Command::World),
-        Some(("load", found)) => load_met(found),
-        Some(("audit", _)) => Some(Command::Audit),
-        _ => None,
+        Some(("world", _)) => Ok(Some(Command::World)),
+        Some(("load", found)) => Ok(load_met(found)),
+        Some(("node", found)) => node_command(alloc, found),
+        Some(("audit", _)) => Ok(Some(Command::Audit)),
+        _ => Ok(None),
     }
 }
 
@@ -202,14 +231,16 @@ fn refusal(alloc: Global, error: &Error) -> NoCommand
 
 /// Reads the words behind the program's name.
 pub fn read_words(alloc: Global, words: &[String]) -> Result<Command, NoCommand>
-    // They are a command exactly by the parser's meaning and, of `load`, with a number from 1 to 100,000. All else is none.
+    // They are a command exactly by the parser's meaning and, of `load` and `node`, with values in range. All else is none.
     ensures command { IfOk result (λ command. command_of (map string_bytes words.now) ≡ Some command) }
+    ensures fits { IfOk result FitsCommand }
     ensures none { IfErr result (Refuses (map string_bytes words.now)) }
 {
     match parse(alloc, words) {
-        Ok(matches) => match command_met(&matches) {
-            Some(command) => Ok(command),
-            None => Err(NoCommand::Wrong),
+        Ok(matches) => match command_met(alloc, &matches) {
+            Ok(Some(command)) => Ok(command),
+            Ok(None) => Err(NoCommand::Wrong),
+            Err(_) => Err(NoCommand::NoMemory),
         },
         Err(error) => Err(refusal(alloc, &error)),
     }

@@ -1,7 +1,8 @@
 //! Laws of words. They speak of the definitions alone.
 ghost use Rattle.std.specs.Prelude.{◌≡◌, [], ◌∷◌, codes, Some, None, true};
 ghost use Rattle.command_words.specs.Commands.{IsShown, IsWrong, command_of, may_show};
-ghost use Rattle.command_words.specs.declared.command.Command.TheVariants.{World, Load, Audit};
+ghost use Rattle.command_words.specs.Options.{first_node, node_words};
+ghost use Rattle.command_words.specs.declared.command.Command.TheVariants.{World, Load, Node, Audit};
 
 /// The words that are the command `world`: this word, and also with the mark `--`, behind which it
 /// takes nothing.
@@ -60,6 +61,33 @@ pub fn other_numbers_are_no_load()
     ensures empty_number { IsWrong (codes "load" ∷ [] ∷ []) }
     ensures more { IsWrong (codes "load" ∷ codes "1" ∷ codes "2" ∷ []) }
     ensures option { IsWrong (codes "load" ∷ codes "--N=1" ∷ []) }
+{}
+
+/// Words that are a node: the word `node`, and each option with a value in its range. A value stands behind its option,
+/// or behind `=`. The options may stand in any order.
+pub fn values_in_range_are_a_node()
+    ensures usual { command_of (node_words (codes "1") (codes "d") (codes "736d") (codes "4,1") []) ≡ Some (Node (first_node 1024)) }
+    ensures period { command_of (node_words (codes "1") (codes "d") (codes "736d") (codes "4,1") (codes "--period" ∷ codes "4" ∷ [])) ≡ Some (Node (first_node 4)) }
+    ensures joined { command_of (codes "node" ∷ codes "--group=4,1" ∷ codes "--secret=736d" ∷ codes "--dir=d" ∷ codes "--id=1" ∷ []) ≡ Some (Node (first_node 1024)) }
+{}
+
+/// Words that lack an option or give it another value are no node, and the parser's text is not shown.
+pub fn other_values_are_no_node()
+    ensures none { IsWrong (codes "node" ∷ []) }
+    ensures no_group { IsWrong (codes "node" ∷ codes "--id" ∷ codes "1" ∷ codes "--dir" ∷ codes "d" ∷ codes "--secret" ∷ codes "736d" ∷ []) }
+    ensures no_member { IsWrong (node_words (codes "0") (codes "d") (codes "736d") (codes "4,1") []) }
+    ensures great_member { IsWrong (node_words (codes "65536") (codes "d") (codes "736d") (codes "4,1") []) }
+    ensures no_secret { IsWrong (node_words (codes "1") (codes "d") [] (codes "4,1") []) }
+    ensures half_a_byte { IsWrong (node_words (codes "1") (codes "d") (codes "736") (codes "4,1") []) }
+    ensures capital { IsWrong (node_words (codes "1") (codes "d") (codes "736D") (codes "4,1") []) }
+    ensures few_members { IsWrong (node_words (codes "1") (codes "d") (codes "736d") (codes "3,1") []) }
+    ensures many_members { IsWrong (node_words (codes "1") (codes "d") (codes "736d") (codes "32,10") []) }
+    ensures many_faulty { IsWrong (node_words (codes "1") (codes "d") (codes "736d") (codes "31,11") []) }
+    ensures one_number { IsWrong (node_words (codes "1") (codes "d") (codes "736d") (codes "4") []) }
+    ensures short_period { IsWrong (node_words (codes "1") (codes "d") (codes "736d") (codes "4,1") (codes "--period" ∷ codes "3" ∷ [])) }
+    ensures long_period { IsWrong (node_words (codes "1") (codes "d") (codes "736d") (codes "4,1") (codes "--period" ∷ codes "1048577" ∷ [])) }
+    ensures twice { IsWrong (node_words (codes "1") (codes "d") (codes "736d") (codes "4,1") (codes "--id" ∷ codes "1" ∷ [])) }
+    ensures help { IsShown (codes "node" ∷ codes "--help" ∷ []) }
 {}
 
 /// The words that are the command `audit`: this word, and also with the mark `--`, behind which it

@@ -3,3 +3,6 @@
 
 pub mod command;
 pub mod laws;
+mod node_options;
+mod node_values;
+pub mod node_words;

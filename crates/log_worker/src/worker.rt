@@ -58,6 +58,7 @@ impl<D: Disk, H: Home> LogWorker<D, H> {
         requires none { D.told → store.plan.adding ≡ [] }
         ensures lane { result.lane ≡ lane }
         ensures store { (result.store.plan.firm ≡ store.plan.firm) × (result.store.plan.generation ≡ store.plan.generation) }
+        ensures disks { result.store.disks ≡ store.disks }
         ensures whole { result.faulty ≡ false }
         ensures stands { (D.told → Stands (state_of D.cells store)) → D.told → Stands (state_of D.cells result.store) }
     {

@@ -38,10 +38,18 @@ pub enum Status {
         line: u64,
         kind: Kind,
     },
+    /// This entry of a node's store has no meaning there. Entries are counted from 1; 0 is the checkpoint.
+    Store {
+        entry: u64,
+    },
     /// The input failed.
     ReadFault,
     /// The output failed.
     WriteFault,
+    /// The trail of a node failed.
+    TrailFault,
+    /// A device of a node failed.
+    DiskFault,
     /// A premise of the promise does not hold in the play of this line.
     Premise {
         line: u64,
@@ -69,9 +77,10 @@ impl Status {
         match self {
             Status::Ok => 0,
             Status::Words => 2,
-            Status::Script { .. } => 3,
+            Status::Script { .. } | Status::Store { .. } => 3,
             Status::ReadFault => 4,
-            Status::WriteFault => 5,
+            Status::WriteFault | Status::TrailFault => 5,
+            Status::DiskFault => 6,
             Status::Premise { .. } => 7,
             Status::Limit { .. } => 8,
             Status::Differs { .. } => 9,

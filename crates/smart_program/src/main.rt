@@ -1,6 +1,10 @@
 //! The program `smart`: it makes the real input and outputs, and runs.
 #![tactic(auto)]
 
+use clock_gate::clock::RealClock;
+use clock_gate::gate::OpenGate;
+use node_rooms::disks::FileRoom;
+use node_rooms::written::FileTrails;
 use script_play::status::Status;
 use smart_io::standard::{StdSink, StdSource};
 use smart_top::report::report;
@@ -42,6 +46,9 @@ fn main(rt: HostRuntime) -> ExitCode {
         inner: rt.stderr(),
         faults: 0,
     };
+    let mut room = FileRoom::new(&rt, rt.alloc());
+    let mut clock = RealClock::new(&rt);
+    let mut trails = FileTrails::new(&rt, rt.alloc());
     let status = match program_words(&rt) {
         Ok(words) => {
             run(
@@ -51,6 +58,10 @@ fn main(rt: HostRuntime) -> ExitCode {
                 &mut input,
                 &mut output,
                 &mut errors,
+                &mut room,
+                &mut clock,
+                &mut trails,
+                &OpenGate,
             )
         }
         Err(status) => {

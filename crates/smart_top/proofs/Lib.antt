@@ -1,3 +1,4 @@
+pub mod Apart
 pub mod Auditing
 pub mod ReadingCores
 pub mod ReadingPlays
@@ -8,3 +9,4 @@ pub mod Closing
 pub mod LoadHeader
 pub mod LoadMeanings
 pub mod Loading
+pub mod Noding

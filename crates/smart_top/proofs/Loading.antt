@@ -201,8 +201,11 @@ pub is_complete : (n : ℕ) (written now : Option (List ℕ)) (wants wants' : �
 is_complete n written now wants wants' ends.Ok e whole fine = inl refl
 is_complete n written now wants wants' ends.Words e whole fine = absurd e
 is_complete n written now wants wants' (ends.Script line kind) e whole fine = absurd e
+is_complete n written now wants wants' (ends.Store entry) e whole fine = absurd e
 is_complete n written now wants wants' ends.ReadFault e whole fine = absurd e
 is_complete n written now wants wants' ends.WriteFault e whole fine = absurd (fine refl)
+is_complete n written now wants wants' ends.TrailFault e whole fine = absurd e
+is_complete n written now wants wants' ends.DiskFault e whole fine = absurd e
 is_complete n written now wants wants' (ends.Premise line which) e whole fine = absurd (none-refused (load_read node_courses n).refused whole e.refused)
 is_complete n written now wants wants' (ends.Limit line) e whole fine = absurd (none-refused (load_read node_courses n).refused whole e.refused)
 is_complete n written now wants wants' (ends.Differs kind member event) e whole fine = absurd e

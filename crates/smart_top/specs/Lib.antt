@@ -1,4 +1,5 @@
 pub mod Feeds
 pub mod Runs
 pub mod Loads
+pub mod Nodes
 pub mod Audits

@@ -69,8 +69,11 @@ abbrev pub LoadEnd : ℕ → Option (List ℕ) → Option (List ℕ) → ℕ →
 LoadEnd n written written' wants wants' ends.Ok = WroteSummary n written written'
 LoadEnd n written written' wants wants' ends.Words = ⊥
 LoadEnd n written written' wants wants' (ends.Script line kind) = ⊥
+LoadEnd n written written' wants wants' (ends.Store entry) = ⊥
 LoadEnd n written written' wants wants' ends.ReadFault = ⊥
 LoadEnd n written written' wants wants' ends.WriteFault = WroteSummaryFront n written written'
+LoadEnd n written written' wants wants' ends.TrailFault = ⊥
+LoadEnd n written written' wants wants' ends.DiskFault = ⊥
 LoadEnd n written written' wants wants' (ends.Premise line which) = RefusedLine n written written' (ends.Premise line which)
 LoadEnd n written written' wants wants' (ends.Limit line) = RefusedLine n written written' (ends.Limit line)
 LoadEnd n written written' wants wants' (ends.Differs kind member event) = ⊥

@@ -97,8 +97,11 @@ abbrev pub RunEnd : Option (List ℕ) → Option (List ℕ) → Option (List ℕ
 RunEnd left left' written written' wants wants' ends.Ok = Ends left written written' ends.Ok × IsAtEnd left'
 RunEnd left left' written written' wants wants' ends.Words = ⊥
 RunEnd left left' written written' wants wants' (ends.Script line kind) = Ends left written written' (ends.Script line kind)
+RunEnd left left' written written' wants wants' (ends.Store entry) = ⊥
 RunEnd left left' written written' wants wants' ends.ReadFault = WroteAllRead left left' written written'
 RunEnd left left' written written' wants wants' ends.WriteFault = WroteFront left written written'
+RunEnd left left' written written' wants wants' ends.TrailFault = ⊥
+RunEnd left left' written written' wants wants' ends.DiskFault = ⊥
 RunEnd left left' written written' wants wants' (ends.Premise line which) = Ends left written written' (ends.Premise line which)
 RunEnd left left' written written' wants wants' (ends.Limit line) = Ends left written written' (ends.Limit line)
 RunEnd left left' written written' wants wants' (ends.Differs kind member event) = ⊥

@@ -4,6 +4,7 @@
 pub mod audit;
 pub mod laws;
 pub mod load;
+pub mod node;
 pub mod reader;
 pub mod report;
 pub mod top;

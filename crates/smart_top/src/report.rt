@@ -42,8 +42,10 @@ fn text_of(alloc: Global, status: Status) -> Result<String, AllocError> {
             let kind = kind_name(kind);
             write!(&mut text, "smart: line {line}: {kind}\n")?;
         }
+        Status::Store { entry } => write!(&mut text, "smart: line {entry}: Store\n")?,
         Status::ReadFault => text.push_str("smart: read fault\n")?,
-        Status::WriteFault => text.push_str("smart: write fault\n")?,
+        Status::WriteFault | Status::TrailFault => text.push_str("smart: write fault\n")?,
+        Status::DiskFault => text.push_str("smart: disk fault\n")?,
         Status::Premise { line, which } => {
             write!(&mut text, "smart: line {line}: premise ")?;
             push_premise(&mut text, which)?;

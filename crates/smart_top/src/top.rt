@@ -7,21 +7,32 @@ ghost use Rattle.script_play.specs.Readings.{script_lines, whole_lines};
 ghost use Rattle.smart_top.specs.Feeds.{HasTaken, GoesOn, GoesOnBehind, halt_end};
 ghost use Rattle.smart_top.specs.Runs.{IsLeft, RunEnd};
 ghost use Rattle.smart_top.specs.Loads.{load_read, LoadEnd};
+ghost use Rattle.smart_top.specs.Nodes.{NodeEnd, settings_of};
+ghost use Rattle.app_kv.specs.Snapshots.{keeping};
+ghost use Rattle.member_opening.specs.Devices.{images_at};
 ghost use Rattle.smart_top.specs.Audits.{AuditEnd};
 ghost use Rattle.command_words.specs.Commands.{command_of};
+ghost use Rattle.command_words.specs.declared.node_words.NodeWords.{NodeWords};
 
 use crate::audit::audit;
 use crate::load::load;
+use crate::node::node;
 use crate::reader::{Halt, Reader, end_line, feed, write_lines};
 use crate::report::report;
+use clock_gate::clock::Clock;
+use clock_gate::gate::Gate;
 use command_words::command::{Command, NoCommand, read_words};
+use disk_model::room::DiskRoom;
 use faults::Fault;
+use node_rooms::trails::TrailRoom;
 use script_play::script::{Script, script_end};
 use script_play::status::Status;
 use smart_base::sequence::Sequence;
 use smart_io::stream::{Sink, Source, write_all};
 use std::alloc::Global;
 use std::mem::forget;
+use std::sync::Wait;
+use std::thread::Threads;
 
 /// The number of bytes that are read at a time.
 const PIECE: usize = 4096;
@@ -140,27 +151,51 @@ pub fn play_script<I: Source, O: Sink>(alloc: Global, input: &mut I, output: &mu
 }
 
 /// Does what the words say, and writes to `errors` what the parser shows of words that are no command.
-#[tactic(auto, using(crate::proofs::Ending::unread_run, crate::proofs::Loading::unread_load, crate::proofs::Loading::is_complete, crate::proofs::Auditing::unread_audit))]
-fn obey<I: Source, O: Sink, E: Sink>(
+#[tactic(auto, using(crate::proofs::Ending::unread_run, crate::proofs::Loading::unread_load, crate::proofs::Loading::is_complete, crate::proofs::Auditing::unread_audit, crate::proofs::Noding::unread_node, crate::proofs::Apart::run_trail, crate::proofs::Apart::run_disk, crate::proofs::Apart::load_trail, crate::proofs::Apart::load_disk, crate::proofs::Apart::audit_trail, crate::proofs::Apart::audit_disk))]
+fn obey<
+    I: Source + Send,
+    O: Sink + Send,
+    E: Sink,
+    M: DiskRoom,
+    K: Clock + Send,
+    T: TrailRoom,
+    G: Gate + Sync,
+    H: Threads + Wait + Sync,
+>(
+    rt: &H,
     alloc: Global,
     words: &[String],
     input: &mut I,
     output: &mut O,
     errors: &mut E,
+    room: &mut M,
+    clock: &mut K,
+    trails: &mut T,
+    gate: &G,
 ) -> Status
+where
+    M::Disk: Send,
+    T::Sink: Send,
     ensures words { result ≡ Status.Words → command_of (map string_bytes words.now) ≡ None }
     ensures none { command_of (map string_bytes words.now) ≡ None → (result ≡ Status.Words) ⊎ (result ≡ Status.NoMemory) }
     ensures untouched { command_of (map string_bytes words.now) ≡ None → (input.new ≡ input.old) × (output.new ≡ output.old) }
     ensures ended { command_of (map string_bytes words.now) ≡ Some Command.World → RunEnd (I.left input.old) (I.left input.new) (O.written output.old) (O.written output.new) (O.wants output.old) (O.wants output.new) result }
     ensures load { (n : ℕ) → command_of (map string_bytes words.now) ≡ Some (Command.Load n) → (input.new ≡ input.old) × LoadEnd n (O.written output.old) (O.written output.new) (O.wants output.old) (O.wants output.new) result }
     ensures complete { (n : ℕ) → command_of (map string_bytes words.now) ≡ Some (Command.Load n) → (load_read node_courses n).refused ≡ None → (Rose (O.faults output.old) (O.faults output.new) → ⊥) → (result ≡ Status.Ok) ⊎ (result ≡ Status.NoMemory) }
+    ensures node { (n : NodeWords) → command_of (map string_bytes words.now) ≡ Some (Command.Node n) → NodeEnd (record { meaning = keeping; settings = settings_of n; told = M.Disk.told; images = images_at (M.cells room.old) n.dir n.id; left_before = I.left input.old; left_after = I.left input.new; written_before = O.written output.old; written_after = O.written output.new; trails_after = T.kept trails.new }) M.Disk.cells (M.cells room.new) result }
+    ensures apart { ((n : NodeWords) → command_of (map string_bytes words.now) ≡ Some (Command.Node n) → ⊥) → (room.new ≡ room.old) × ((clock.new ≡ clock.old) × (trails.new ≡ trails.old)) }
     ensures audit { command_of (map string_bytes words.now) ≡ Some Command.Audit → AuditEnd (I.left input.old) (I.left input.new) (O.written output.old) (O.written output.new) (O.wants output.old) (O.wants output.new) result }
     ensures read { result ≡ Status.ReadFault → Rose (I.faults input.old) (I.faults input.new) }
     ensures write { result ≡ Status.WriteFault → Rose (O.faults output.old) (O.faults output.new) }
+    ensures trail { result ≡ Status.TrailFault → Rose (T.faults trails.old) (T.faults trails.new) }
+    ensures disk { result ≡ Status.DiskFault → Rose (M.faults room.old) (M.faults room.new) }
 {
     match read_words(alloc, words) {
         Ok(Command::World) => play_script(alloc, input, output),
         Ok(Command::Load { count }) => load(alloc, count, output),
+        Ok(Command::Node(words)) => node(
+            rt, alloc, words, input, output, room, clock, trails, gate,
+        ),
         Ok(Command::Audit) => audit(alloc, input, output),
         Err(NoCommand::Shown(text)) => {
             let _ = write_all(errors, text.as_bytes());
@@ -174,7 +209,8 @@ fn obey<I: Source, O: Sink, E: Sink>(
 /// Runs the program. `world` reads a script from the input and writes its transcript to the output.
 /// `load N` plays the script of a load of N asks and writes the totals of its play. `audit` reads trails
 /// from the input, and writes whether they are coherent, or their first difference from what the rules of
-/// their members make.
+/// their members make. `node` runs one member of a group: frames that are read arrive at its node, and
+/// what that sends is written as frames.
 /// For each status other than `Ok` a line is written to `errors`; a failure there changes nothing.
 /// Before it stands what the parser shows of words that ask for help or for the version, or of none.
 ///
@@ -196,14 +232,30 @@ fn obey<I: Source, O: Sink, E: Sink>(
 ///
 /// The premises are checked. A crash with another image ends the play. A forged statement, a
 /// collision of digests, and one faulty member too many end it too.
-pub fn run<H, I: Source, O: Sink, E: Sink>(
-    _rt: &H,
+pub fn run<
+    H: Threads + Wait + Sync,
+    I: Source + Send,
+    O: Sink + Send,
+    E: Sink,
+    M: DiskRoom,
+    K: Clock + Send,
+    T: TrailRoom,
+    G: Gate + Sync,
+>(
+    rt: &H,
     alloc: Global,
     words: &[String],
     input: &mut I,
     output: &mut O,
     errors: &mut E,
+    room: &mut M,
+    clock: &mut K,
+    trails: &mut T,
+    gate: &G,
 ) -> Status
+where
+    M::Disk: Send,
+    T::Sink: Send,
     // The status `Words`: the words are no command. Words that are none end otherwise only for want of memory.
     ensures words { result ≡ Status.Words → command_of (map string_bytes words.now) ≡ None }
     ensures none { command_of (map string_bytes words.now) ≡ None → (result ≡ Status.Words) ⊎ (result ≡ Status.NoMemory) }
@@ -215,13 +267,22 @@ pub fn run<H, I: Source, O: Sink, E: Sink>(
     ensures load { (n : ℕ) → command_of (map string_bytes words.now) ≡ Some (Command.Load n) → (input.new ≡ input.old) × LoadEnd n (O.written output.old) (O.written output.new) (O.wants output.old) (O.wants output.new) result }
     // `load` is complete: if no line of its script is refused and the output does not fail, it ends well, or for want of memory.
     ensures complete { (n : ℕ) → command_of (map string_bytes words.now) ≡ Some (Command.Load n) → (load_read node_courses n).refused ≡ None → (Rose (O.faults output.old) (O.faults output.new) → ⊥) → (result ≡ Status.Ok) ⊎ (result ≡ Status.NoMemory) }
+    // What `node` has read, written and kept, by the status.
+    ensures node { (n : NodeWords) → command_of (map string_bytes words.now) ≡ Some (Command.Node n) → NodeEnd (record { meaning = keeping; settings = settings_of n; told = M.Disk.told; images = images_at (M.cells room.old) n.dir n.id; left_before = I.left input.old; left_after = I.left input.new; written_before = O.written output.old; written_after = O.written output.new; trails_after = T.kept trails.new }) M.Disk.cells (M.cells room.new) result }
+    // No other command touches the rooms or the clock.
+    ensures apart { ((n : NodeWords) → command_of (map string_bytes words.now) ≡ Some (Command.Node n) → ⊥) → (room.new ≡ room.old) × ((clock.new ≡ clock.old) × (trails.new ≡ trails.old)) }
     // What `audit` has read and written, by the status: the line that tells what it finds in the trails of its whole input.
     ensures audit { command_of (map string_bytes words.now) ≡ Some Command.Audit → AuditEnd (I.left input.old) (I.left input.new) (O.written output.old) (O.written output.new) (O.wants output.old) (O.wants output.new) result }
     // A fault of input or output: its count rose.
     ensures read { result ≡ Status.ReadFault → Rose (I.faults input.old) (I.faults input.new) }
     ensures write { result ≡ Status.WriteFault → Rose (O.faults output.old) (O.faults output.new) }
+    // A fault of a trail or of a device: the count of its room rose.
+    ensures trail { result ≡ Status.TrailFault → Rose (T.faults trails.old) (T.faults trails.new) }
+    ensures disk { result ≡ Status.DiskFault → Rose (M.faults room.old) (M.faults room.new) }
 {
-    let status = obey(alloc, words, input, output, errors);
+    let status = obey(
+        rt, alloc, words, input, output, errors, room, clock, trails, gate,
+    );
     report(alloc, errors, status);
     status
 }

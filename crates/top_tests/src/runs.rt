@@ -1,9 +1,15 @@
 //! Runs over inputs and outputs in memory that fail, and over long inputs.
+use clock_gate::clock::StepClock;
+use clock_gate::gate::OpenGate;
+use disk_model::room::MemRoom;
+use node_rooms::memory::MemTrails;
 use script_play::status::Status;
 use smart_io::memory::{MemSink, MemSource};
 use smart_top::top::run;
 use std::alloc::Global;
 use std::process::Abort;
+use std::sync::Wait;
+use std::thread::Threads;
 use world_rules::line::Kind;
 
 /// One ask to a lone member.
@@ -35,8 +41,8 @@ fn sink(alloc: Global, failing: Vec<u64>) -> MemSink {
 
 /// Runs a command's words over a script, where these calls of the input and of the output fail: how it
 /// ends, what it writes and what it says.
-fn played(
-    rt: &impl Abort,
+fn played<R: Abort + Threads + Wait + Sync>(
+    rt: &R,
     alloc: Global,
     command: &str,
     script: Vec<u8>,
@@ -58,6 +64,10 @@ fn played(
         &mut input,
         &mut output,
         &mut errors,
+        &mut MemRoom::new(alloc),
+        &mut StepClock::new(0),
+        &mut MemTrails::new(alloc, 0, 0),
+        &OpenGate,
     );
     (status, output.bytes, errors.bytes)
 }
@@ -127,7 +137,11 @@ fn a_load_reads_nothing_and_ends_by_its_output(rt: HostRuntime) {
 
 /// Runs the words of a row, each behind a space, over no input: how it ends, what it writes and what
 /// it says.
-fn ran(rt: &impl Abort, alloc: Global, row: &str) -> (Status, Vec<u8>, Vec<u8>) {
+fn ran<R: Abort + Threads + Wait + Sync>(
+    rt: &R,
+    alloc: Global,
+    row: &str,
+) -> (Status, Vec<u8>, Vec<u8>) {
     let mut words = Vec::new(alloc);
     for word in row.split(' ').skip(1) {
         let word = String::from_str(alloc, word).expect(rt, "there is memory");
@@ -143,6 +157,10 @@ fn ran(rt: &impl Abort, alloc: Global, row: &str) -> (Status, Vec<u8>, Vec<u8>) 
         &mut input,
         &mut output,
         &mut errors,
+        &mut MemRoom::new(alloc),
+        &mut StepClock::new(0),
+        &mut MemTrails::new(alloc, 0, 0),
+        &OpenGate,
     );
     (status, output.bytes, errors.bytes)
 }

@@ -4,6 +4,10 @@
 
 ghost use Rattle.std.specs.Prelude.{◌≡◌, ◌↔◌, IsNone};
 
+use clock_gate::clock::StepClock;
+use clock_gate::gate::OpenGate;
+use disk_model::room::MemRoom;
+use node_rooms::memory::MemTrails;
 use smart_io::memory::{MemSink, MemSource};
 use smart_top::top::run;
 use std::io::Write;
@@ -87,7 +91,18 @@ fn play(rt: &HostRuntime, words: &[String], script: Vec<u8>) -> io::Result<Endin
     let mut input = MemSource::new(script, Vec::new(alloc));
     let mut output = MemSink::new(Vec::new(alloc), Vec::new(alloc));
     let mut errors = MemSink::new(Vec::new(alloc), Vec::new(alloc));
-    let status = run(rt, alloc, words, &mut input, &mut output, &mut errors);
+    let status = run(
+        rt,
+        alloc,
+        words,
+        &mut input,
+        &mut output,
+        &mut errors,
+        &mut MemRoom::new(alloc),
+        &mut StepClock::new(0),
+        &mut MemTrails::new(alloc, 0, 0),
+        &OpenGate,
+    );
     let status = status_line(rt, status.code(), errors.bytes.as_slice())?;
     Ok(Ending {
         written: output.bytes,

@@ -2,8 +2,10 @@
 #![tactic(auto)]
 
 use command_words::command::{Command, NoCommand, read_words};
+use command_words::node_words::NodeWords;
+use smart_base::sequence::Bytes;
 use std::alloc::{AllocError, Global};
-use std::io;
+use std::{io, str};
 
 /// The words of a row, each behind a space: none of `smart`, one empty word of `smart `.
 fn words_of(alloc: Global, row: &str) -> Result<Vec<String>, AllocError> {
@@ -14,6 +16,25 @@ fn words_of(alloc: Global, row: &str) -> Result<Vec<String>, AllocError> {
     Ok(words)
 }
 
+/// The text that bytes are; none of bytes that are no text.
+fn text_of(bytes: &Bytes) -> &str {
+    str::from_utf8(bytes.as_slice()).unwrap_or("")
+}
+
+/// Says what node words are.
+fn say_node(rt: &HostRuntime, node: &NodeWords) -> io::Result<()> {
+    let secret = hex::encode(rt.alloc(), node.secret.as_slice())?;
+    println!(
+        rt;
+        "the command node: member {}, directory \"{}\", secret {secret}, group {},{}, period {}",
+        node.id,
+        text_of(&node.dir),
+        node.group.members,
+        node.group.faulty,
+        node.period
+    )
+}
+
 fn main(rt: HostRuntime) -> io::Result<()> {
     for row in rt.lines(rt.alloc()) {
         let row = row?;
@@ -22,6 +43,7 @@ fn main(rt: HostRuntime) -> io::Result<()> {
         match read_words(rt.alloc(), words.as_slice()) {
             Ok(Command::World) => println!(rt; "the command world")?,
             Ok(Command::Load { count }) => println!(rt; "the command load {count}")?,
+            Ok(Command::Node(node)) => say_node(&rt, &node)?,
             Ok(Command::Audit) => println!(rt; "the command audit")?,
             Err(NoCommand::Shown(text)) => println!(rt; "shown:\n{text}")?,
             Err(NoCommand::Wrong) => println!(rt; "wrong")?,

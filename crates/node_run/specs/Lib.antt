@@ -1,0 +1,5 @@
+pub mod Lives
+pub mod Members
+pub mod Opened
+pub mod Statuses
+pub mod Wires
