@@ -1,5 +1,5 @@
 -- How a run of `audit` ends.
-use Rattle.std.proofs.Common.{◌≡◌, ℕ, List, Option, refl, inl}
+use Rattle.std.proofs.Common.{◌≡◌, ◌∙◌, ℕ, List, Option, refl, inl}
 use Rattle.script_play.specs.declared.status.Status.TheVariants as ends
 use Rattle.audit_play.specs.declared.status.AuditStatus.{AuditStatus}
 use Rattle.audit_play.specs.declared.status.AuditStatus.TheVariants as audits
