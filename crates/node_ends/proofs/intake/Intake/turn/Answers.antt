@@ -13,9 +13,9 @@ returns-in-Some-next-clause-reads g c =
     let p = c.pass.new.self in
     reads-went _ c.pass.result s p e.goes
     (λ bytes t.
-        let t' : IsTakenIn bytes s.frames (link_put s.link) None s.count s.is_long = subst (λ (w : Option (List ℕ)). IsTakenIn bytes s.frames (link_put s.link) w s.count s.is_long) none t in
-        let on = passed bytes s.frames c.next.new.self c.in-Some-next.frame (link_put s.link) (link_put p.link) p.waiting s.count p.count s.is_long (λ given fed. n.fed bytes given fed) n.rest e.put e.count t' in
-        rw (e.same.0, e.same.1) on)
+    let t' : IsTakenIn bytes s.frames (link_put s.link) None s.count s.is_long = subst (λ (w : Option (List ℕ)). IsTakenIn bytes s.frames (link_put s.link) w s.count s.is_long) none t in
+    let on = passed bytes s.frames c.next.new.self c.in-Some-next.frame (link_put s.link) (link_put p.link) p.waiting s.count p.count s.is_long (λ given fed. n.fed bytes given fed) n.rest e.put e.count t' in
+    rw (e.same.0, e.same.1) on)
 
 pub returns-then-self-clause-reads : goal.returns-then-self-clause-reads
 returns-then-self-clause-reads g c =
@@ -24,5 +24,5 @@ returns-then-self-clause-reads g c =
     let n = c.in_default-next.ensures in
     reads-none _ _ s _
     (λ bytes t.
-        let t' = given-none bytes s.frames c.next.new.self (link_put s.link) s.waiting s.count s.is_long (λ given fed. n.fed bytes given fed) n.rest t in
-        subst (λ (w : Option (List ℕ)). IsTakenIn bytes c.next.new.self (link_put s.link) w s.count s.is_long) (none ∙ sym c.take.ensures.after) t')
+    let t' = given-none bytes s.frames c.next.new.self (link_put s.link) s.waiting s.count s.is_long (λ given fed. n.fed bytes given fed) n.rest t in
+    subst (λ (w : Option (List ℕ)). IsTakenIn bytes c.next.new.self (link_put s.link) w s.count s.is_long) (none ∙ sym c.take.ensures.after) t')

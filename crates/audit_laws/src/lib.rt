@@ -1,0 +1,4 @@
+//! Laws of audits of inputs.
+#![tactic(auto)]
+
+pub mod laws;
