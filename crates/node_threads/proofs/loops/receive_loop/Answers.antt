@@ -1,0 +1,5 @@
+use Rattle.node_threads.proofs.Ends.{reads-by}
+use Rattle.node_threads.proofs.loops.receive_loop.Goals as goal
+
+pub returns-clause-reads : goal.returns-clause-reads
+returns-clause-reads g c = reads-by _ _ _ _ _ _ c.end_of_input.ensures.early c.take_all-end.ensures.reads
