@@ -1,4 +1,5 @@
 pub mod Booked
+pub mod Chains
 pub mod Fails
 pub mod Grouped
 pub mod Stored

@@ -124,7 +124,7 @@ impl<D: Disk, H: Home> LogWorker<D, H> {
         // A snapshot that was handed over is switched to, and the generation is the next one. The entries of the lane that are firm then are passed over.
         // Or all was taken that was heard to be put, and written with what waited. Nothing is handed over then, or no generation is left. What still
         // waits stands at or after an entry that ends a group.
-        ensures done { OnOk result ((HandedMade D.told D.remembers D.cells D.moment D.left_since E.stops C.is_replica C.is_tail C.alone (C.hands cell.old) (C.tails cell.old) result self.old.store self.new.store
+        ensures done { OnOk result ((HandedMade D.told D.remembers D.cells D.moment D.left_since E.stops H.restored C.is_replica C.is_tail C.alone (C.hands cell.old) (C.tails cell.old) result self.old.store self.new.store
             × ((self.new.store.plan.generation ≡ self.old.store.plan.generation + 1)
             × PassesOver (self.new.store.plan.firm - H.restored) (lane_heard_put self.old.lane) (lane_taken self.old.lane) (lane_taken self.new.lane)))
             ⊎ (GroupMade D.told D.remembers D.cells D.moment D.left_since E.stops result (lane_taken self.old.lane) (lane_taken self.new.lane) self.old.store self.new.store
@@ -132,7 +132,7 @@ impl<D: Disk, H: Home> LogWorker<D, H> {
             × ((C.alone → (C.hands cell.old ≡ None) ⊎ (self.old.store.plan.generation ≡ greatest))
             × ((d : Devices) → is_due E.stops (state_with self.new.store.plan d) ≡ false))))) }
         // The store was asked for no other switch and no other group, and made no other calls.
-        ensures failed { OnErr result ((HandedMade D.told D.remembers D.cells D.moment D.left_since E.stops C.is_replica C.is_tail C.alone (C.hands cell.old) (C.tails cell.old) result self.old.store self.new.store
+        ensures failed { OnErr result ((HandedMade D.told D.remembers D.cells D.moment D.left_since E.stops H.restored C.is_replica C.is_tail C.alone (C.hands cell.old) (C.tails cell.old) result self.old.store self.new.store
             × (lane_taken self.new.lane ≡ lane_taken self.old.lane))
             ⊎ GroupMade D.told D.remembers D.cells D.moment D.left_since E.stops result (lane_taken self.old.lane) (lane_taken self.new.lane) self.old.store self.new.store) }
         ensures stands { OnOk result (D.told → Stands (state_of D.cells self.new.store)) }
@@ -149,7 +149,8 @@ impl<D: Disk, H: Home> LogWorker<D, H> {
     }
 
     /// Switches to the next generation with a snapshot of this place, and passes over the entries that
-    /// are firm by it.
+    /// are firm by it. A tail that ends before an entry that is firm is refused as want of memory: the
+    /// log would lose that entry.
     fn switch<C: CoreCell, E: Stops, R: Wait>(
         &mut self,
         rt: &R,
@@ -167,7 +168,7 @@ impl<D: Disk, H: Home> LogWorker<D, H> {
         ensures whole { OnOk result (self.new.faulty ≡ false) }
         ensures fails { OnErr result (self.new.faulty ≡ true) }
         ensures raised { OnOk result (min (self.new.store.plan.firm - H.restored) (length (lane_taken self.new.lane)) ≤ lane_raised self.new.lane) }
-        ensures switched { SwitchMade D.told D.remembers D.cells D.moment D.left_since E.stops C.is_tail C.alone (C.tails cell.old) place snapshot result self.old.store self.new.store ⊎ Wanted D.told D.remembers D.cells D.moment D.left_since E.stops result self.old.store self.new.store }
+        ensures switched { SwitchMade D.told D.remembers D.cells D.moment D.left_since E.stops H.restored C.is_tail C.alone (C.tails cell.old) place snapshot result self.old.store self.new.store ⊎ Wanted D.told D.remembers D.cells D.moment D.left_since E.stops result self.old.store self.new.store }
         ensures passed { OnOk result (PassesOver (self.new.store.plan.firm - H.restored) (lane_heard_put self.old.lane) (lane_taken self.old.lane) (lane_taken self.new.lane)) }
         ensures kept { OnErr result (lane_taken self.new.lane ≡ lane_taken self.old.lane) }
         ensures generation { OnOk result (self.new.store.plan.generation ≡ self.old.store.plan.generation + 1) }
@@ -180,6 +181,9 @@ impl<D: Disk, H: Home> LogWorker<D, H> {
         let Ok(tail) = cell.tail(self.alloc, place) else {
             return Err(LogFault::NoMemory);
         };
+        if tail.made < self.store.firm() - self.restored {
+            return Err(LogFault::NoMemory);
+        }
         store_generation::<D, E>(self.alloc, &mut self.store, snapshot, &tail)?;
         let stored = self.store.firm() - self.restored;
         pass_over(rt, &mut self.lane, stored);
