@@ -1,5 +1,5 @@
 -- A chain of rounds, as a loop carries it.
-use Rattle.std.proofs.Common.{◌≡◌, ◌⊎◌, ℕ, zero, suc, ◌+◌, ◌-◌, Bool, true, false, List, Option, None, Result, OnOk, OnErr, refl, subst}
+use Rattle.std.proofs.Common.{◌≡◌, ◌⊎◌, ℕ, suc, ◌+◌, ◌-◌, Bool, true, false, List, Option, None, Result, OnOk, OnErr, refl, subst}
 use Rattle.disk_model.specs.Cells.{Cells}
 use Rattle.queue_ends.specs.Rule.{IsFront}
 use Rattle.store_form.specs.declared.ends.LogFault.{LogFault}
@@ -7,7 +7,7 @@ use Rattle.store_laws.specs.States.{Devices, greatest, is_due}
 use Rattle.store_laws.specs.declared.job.Tail.{Tail}
 use Rattle.store_plan.specs.Plans.{state_with}
 use Rattle.durable_store.specs.declared.store.Store.{Store}
-use Rattle.log_worker.specs.Rounds.{PassesOver, GroupMade, HandedMade, RoundMade, AllRounds}
+use Rattle.log_worker.specs.Rounds.{PassesOver, GroupMade, HandedMade, AllRounds}
 
 module _ {D : Type 0} (told remembers : Type 0) (cells : D → Cells) (moment : D → ℕ) (left_since : D → ℕ → List ℕ → Type 0) (stops : List ℕ → Bool) (restored : ℕ) (is_replica : ℕ → List ℕ → Type 0) (is_tail : ℕ → Tail → Type 0) (alone : Type 0) (hands : Option (ℕ × List ℕ)) (tails : ℕ → Tail) where
   -- before the first round

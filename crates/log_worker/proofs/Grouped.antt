@@ -1,5 +1,5 @@
 -- Whether a group is made of entries that wait and of more: the first of all tells it.
-use Rattle.std.proofs.Common.{◌≡◌, ℕ, Bool, true, false, not, cond, List, [], ◌∷◌, ◌++◌, slice_get, Option, None, Some, refl, ◌∙◌, ap}
+use Rattle.std.proofs.Common.{◌≡◌, ℕ, Bool, true, false, not, cond, List, [], ◌∷◌, ◌++◌, slice_get, None, Some, refl, ◌∙◌, ap}
 use Rattle.store_laws.specs.States.{some, group_of}
 
 begins_test : (t : Bool) (entry : List ℕ) (rest : List (List ℕ)) → some (cond t [] (entry ∷ rest)) ≡ not t
