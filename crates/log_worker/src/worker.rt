@@ -59,6 +59,9 @@ impl<D: Disk, H: Home> LogWorker<D, H> {
         ensures lane { result.lane ≡ lane }
         ensures store { (result.store.plan.firm ≡ store.plan.firm) × (result.store.plan.generation ≡ store.plan.generation) }
         ensures disks { result.store.disks ≡ store.disks }
+        ensures waiting { (result.store.plan.waiting ≡ store.plan.waiting) × (result.store.state ≡ store.state) }
+        // Over disks that tell their contents, the state of the store is as it was.
+        ensures told { D.told → (d : Devices) → state_with result.store.plan d ≡ state_with store.plan d }
         ensures whole { result.faulty ≡ false }
         ensures stands { (D.told → Stands (state_of D.cells store)) → D.told → Stands (state_of D.cells result.store) }
     {

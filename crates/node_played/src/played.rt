@@ -127,10 +127,13 @@ impl<S: Service, P: Life<S>> Drop for Played<S, P> {
 }
 
 impl<S: Service, P: Life<S>> Played<S, P> {
-    ghost use Rattle.std.specs.Prelude.{◌≡◌, ◌≤◌, ◌<◌, ◌^◌, ◌+◌, ◌-◌, ◌++◌, ◌∷◌, [], false, true, length, None, is_some, IfOk, IfSome, OnOk, OnErr, IsErrOf, IsTrue, MatchOption};
+    ghost use Rattle.std.specs.Prelude.{◌≡◌, ◌≤◌, ◌<◌, ◌^◌, ◌+◌, ◌-◌, ◌++◌, ◌∷◌, [], false, true, length, None, is_some, option_map, IfOk, IfSome, OnOk, OnErr, IsErrOf, IsTrue, MatchOption};
+    ghost use Rattle.vote_book.specs.Books.{number_or};
     ghost use Rattle.log_lane.specs.Lane.{lane_put, lane_read, lane_room, in_lane};
     ghost use Rattle.node_rules.specs.Kept.{core_step};
+    ghost use Rattle.node_rules.specs.Marks.{wanted};
     ghost use Rattle.node_rules.specs.Steps.{first_leaving};
+    ghost use Rattle.node_rules.specs.Tails.{tail_of};
     ghost use Rattle.trail.specs.Events.{event_text, addressed_text};
     ghost use Rattle.trail.specs.declared.event.Addressed.{Addressed};
     ghost use Rattle.trail.specs.declared.event.TrailEvent.TheVariants.{Happens, Send, End};
@@ -218,14 +221,21 @@ impl<S: Service, P: Life<S>> Played<S, P> {
         self.core.firm() - self.core.restored().min(self.core.firm()) < read
     }
 
-    /// A copy of the last snapshot for which the core wants a switch, with its place. Error: want of
-    /// memory.
-    pub fn wanted(&self) -> Result<Option<OwnSnapshot>, AllocError> {
+    /// A copy of the last snapshot for which the core wants a switch, with its place. `None` if and only
+    /// if it wants none. Error: want of memory, also where the core is stuck.
+    pub fn wanted(&self) -> Result<Option<OwnSnapshot>, AllocError>
+        ensures { IfOk result (λ own. own ≡ wanted (replay (core_steps S.meaning) P.opening self.now.trail.items)) }
+    {
+        if self.stuck {
+            return Err(AllocError);
+        }
         self.core.wanted()
     }
 
     /// The place of that snapshot; 0 without one.
-    pub fn place_wanted(&self) -> u64 {
+    pub fn place_wanted(&self) -> u64
+        ensures { self.now.stuck ≡ false → result ≡ number_or (option_map (λ own. own.place) (wanted (replay (core_steps S.meaning) P.opening self.now.trail.items))) 0 }
+    {
         self.core.place_wanted().get()
     }
 
@@ -233,6 +243,8 @@ impl<S: Service, P: Life<S>> Played<S, P> {
     /// stuck.
     pub fn tail(&self, place: u64) -> Result<Tail, AllocError>
         ensures of_place { IfOk result (λ tail. IsTailOf S.meaning P.opening place tail) }
+        // It is that of the trail so far.
+        ensures of_trail { IfOk result (λ tail. (tail.made ≡ (tail_of (replay (core_steps S.meaning) P.opening self.now.trail.items) place).made) × (tail.entries ≡ (tail_of (replay (core_steps S.meaning) P.opening self.now.trail.items) place).entries)) }
         ensures fit { IfOk result (λ tail. AreEntries tail.entries) }
     {
         if self.stuck || place >= 1 << 63 {
