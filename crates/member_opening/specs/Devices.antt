@@ -1,5 +1,5 @@
 -- The devices of a node in a room.
-use Rattle.std.specs.Prelude.{◌≡◌, ◌≢◌, ◌≤◌, ◌+◌, ℕ, List, Option, Some}
+use Rattle.std.specs.Prelude.{◌≡◌, ◌≢◌, ◌≤◌, ◌+◌, ℕ, List, Option, Some, None}
 use Rattle.disk_model.specs.Cells.{Cells}
 use Rattle.disk_model.specs.Rooms.{Address, address}
 use Rattle.store_laws.specs.Restored.{Images}
@@ -26,6 +26,32 @@ pub record AreHeld {D : Type 0} (taken : Address → Option ℕ) (faults : D →
 -- a change of a room that leaves a member's devices as they are, but for two with numbers one after the other
 abbrev pub KeepsDevices : {A : Type 0} → List ℕ → ℕ → ℕ → (Address → A) → (Address → A) → Type 0
 KeepsDevices dir member first old new = (device : ℕ) → device ≢ first → device ≢ first + 1 → new (address dir member device) ≡ old (address dir member device)
+
+-- a change of a room that leaves all addresses as they are, but for two devices of a member with numbers one after the other
+abbrev pub KeepsBesidePair : {A : Type 0} → List ℕ → ℕ → ℕ → (Address → A) → (Address → A) → Type 0
+KeepsBesidePair dir member first old new = (other : Address) → other ≢ address dir member first → other ≢ address dir member (first + 1) → new other ≡ old other
+
+-- a change of a room that leaves all addresses as they are, but for a member's four devices
+abbrev pub KeepsBeside : {A : Type 0} → List ℕ → ℕ → (Address → A) → (Address → A) → Type 0
+KeepsBeside dir member old new =
+    (other : Address) → other ≢ address dir member 0 → other ≢ address dir member 1 → other ≢ address dir member 2 → other ≢ address dir member 3 → new other ≡ old other
+
+-- none of two devices of a member, with numbers one after the other, is taken
+abbrev pub IsFreePair : (Address → Option ℕ) → List ℕ → ℕ → ℕ → Type 0
+IsFreePair taken dir member first = (taken (address dir member first) ≡ None) × (taken (address dir member (first + 1)) ≡ None)
+
+-- none of a member's four devices is taken
+abbrev pub AreFree : (Address → Option ℕ) → List ℕ → ℕ → Type 0
+AreFree taken dir member = IsFreePair taken dir member 0 × IsFreePair taken dir member 2
+
+-- as many of two devices are taken as before, and for each as many failures were told of
+abbrev pub IsPairAsBefore : (Address → Option ℕ) → (Address → Option ℕ) → List ℕ → ℕ → ℕ → Type 0
+IsPairAsBefore old new dir member first =
+    (new (address dir member first) ≡ old (address dir member first)) × (new (address dir member (first + 1)) ≡ old (address dir member (first + 1)))
+
+-- the same of a member's four devices
+abbrev pub AreAsBefore : (Address → Option ℕ) → (Address → Option ℕ) → List ℕ → ℕ → Type 0
+AreAsBefore old new dir member = IsPairAsBefore old new dir member 0 × IsPairAsBefore old new dir member 2
 
 -- the bytes of a member's four devices in a room
 abbrev pub images_at : (Address → Cells) → List ℕ → ℕ → Images

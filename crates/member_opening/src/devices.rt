@@ -5,7 +5,7 @@ ghost use Rattle.disk_model.specs.Cells.{settled};
 ghost use Rattle.disk_model.specs.Rooms.{address, KeepsOthers};
 ghost use Rattle.durable_store.specs.Disks.{AreSettled, DiskRose, contents};
 ghost use Rattle.durable_store.specs.declared.disks.Disks.{Disks};
-ghost use Rattle.member_opening.specs.Devices.{AreHeld, ArePair, IsHeld, KeepsDevices, images_at};
+ghost use Rattle.member_opening.specs.Devices.{AreAsBefore, AreFree, AreHeld, ArePair, IsFreePair, IsHeld, IsPairAsBefore, KeepsBeside, KeepsBesidePair, KeepsDevices, images_at};
 
 use disk_model::disk::Disk;
 use disk_model::room::DiskRoom;
@@ -25,6 +25,7 @@ fn take_device<R: DiskRoom>(
 ) -> Result<R::Disk, Fault>
     ensures held { IfOk result (λ disk. IsHeld (R.taken room.new (address dir.now member device)) (R.Disk.faults disk)) }
     ensures contents { IfOk result (λ disk. R.Disk.told → R.Disk.cells disk ≡ settled (R.cells room.old (address dir.now member device)).now) }
+    ensures free { IfOk result (λ _. R.taken room.old (address dir.now member device) ≡ None) }
     ensures back { OnErr result (R.taken room.new (address dir.now member device) ≡ R.taken room.old (address dir.now member device)) }
     ensures others { KeepsOthers (address dir.now member device) (R.cells room.old) (R.cells room.new) }
     ensures others_taken { KeepsOthers (address dir.now member device) (R.taken room.old) (R.taken room.new) }
@@ -52,8 +53,12 @@ fn take_pair<R: DiskRoom>(
     requires { first ≤ 2 }
     ensures held { IfOk result (λ pair. ArePair (R.taken room.new) R.Disk.faults dir.now member first pair.0 pair.1) }
     ensures contents { IfOk result (λ pair. R.Disk.told → (R.Disk.cells pair.0 ≡ settled (R.cells room.old (address dir.now member first)).now) × (R.Disk.cells pair.1 ≡ settled (R.cells room.old (address dir.now member (first + 1))).now)) }
+    ensures free { IfOk result (λ _. IsFreePair (R.taken room.old) dir.now member first) }
+    ensures back { OnErr result (IsPairAsBefore (R.taken room.old) (R.taken room.new) dir.now member first) }
     ensures others { KeepsDevices dir.now member first (R.cells room.old) (R.cells room.new) }
     ensures others_taken { KeepsDevices dir.now member first (R.taken room.old) (R.taken room.new) }
+    ensures beside { KeepsBesidePair dir.now member first (R.cells room.old) (R.cells room.new) }
+    ensures beside_taken { KeepsBesidePair dir.now member first (R.taken room.old) (R.taken room.new) }
     ensures cause { HasCause (R.faults room.old) (R.faults room.new) result }
 {
     let one = take_device(alloc, room, dir, member, first)?;
@@ -77,6 +82,12 @@ pub fn take_devices<R: DiskRoom>(
     ensures held { IfOk result (λ disks. AreHeld (R.taken room.new) R.Disk.faults dir.now member disks) }
     ensures settled { IfOk result (λ disks. R.Disk.told → AreSettled R.Disk.cells disks) }
     ensures contents { IfOk result (λ disks. R.Disk.told → contents R.Disk.cells disks ≡ images_at (R.cells room.old) dir.now member) }
+    // None of them was taken. After an error none is taken that was not.
+    ensures free { IfOk result (λ _. AreFree (R.taken room.old) dir.now member) }
+    ensures back { OnErr result (AreAsBefore (R.taken room.old) (R.taken room.new) dir.now member) }
+    // All other disks of the room are as they were.
+    ensures beside { KeepsBeside dir.now member (R.cells room.old) (R.cells room.new) }
+    ensures beside_taken { KeepsBeside dir.now member (R.taken room.old) (R.taken room.new) }
     ensures cause { HasCause (R.faults room.old) (R.faults room.new) result }
 {
     let (even_log, odd_log) = take_pair(alloc, room, dir, member, 0)?;
@@ -100,6 +111,10 @@ pub fn take_devices<R: DiskRoom>(
 pub fn put_back<R: DiskRoom>(room: &mut R, dir: &[u8], member: MemberId, disks: Disks<R::Disk>)
     requires { AreHeld (R.taken room.old) R.Disk.faults dir.now member disks }
     ensures contents { R.Disk.told → images_at (R.cells room.new) dir.now member ≡ contents R.Disk.cells disks }
+    ensures back { AreFree (R.taken room.new) dir.now member }
+    // All other disks of the room are as they were.
+    ensures beside { KeepsBeside dir.now member (R.cells room.old) (R.cells room.new) }
+    ensures beside_taken { KeepsBeside dir.now member (R.taken room.old) (R.taken room.new) }
     ensures later { R.faults room.old ≤ R.faults room.new }
     ensures rose { (before : Disks R.Disk) → AreHeld (R.taken room.old) R.Disk.faults dir.now member before → DiskRose R.Disk.faults before disks → Rose (R.faults room.old) (R.faults room.new) }
 {
