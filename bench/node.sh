@@ -72,12 +72,14 @@ for seq in range(1, asks + 1):
             sys.exit("the member has ended by itself, with status %d" % node.wait(timeout=60))
         payload = node.stdout.read(struct.unpack(">I", head)[0])
         written += 1
-        kind, number = struct.unpack_from(">BH", payload)
-        if kind == 2:
-            replies += 1
-            break
-        give(payload[3:])
-        read += 1
+        if payload[0] == 2:
+            # A kept reply may come again, to a request that a tick has passed on.
+            if struct.unpack_from(">Q", payload, 28)[0] == seq:
+                replies += 1
+                break
+        else:
+            give(payload[3:])
+            read += 1
 spent = time.monotonic() - began
 node.stdin.close()
 node.stdout.read()
