@@ -1,0 +1,5 @@
+pub mod Changes
+pub mod Faults
+pub mod Outcomes
+pub mod Replies
+pub mod ViewLists

@@ -1,0 +1,3 @@
+pub mod Applied
+pub mod Changes
+pub mod Outcomes
