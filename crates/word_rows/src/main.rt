@@ -24,8 +24,7 @@ fn text_of(bytes: &Bytes) -> &str {
 /// Says what node words are.
 fn say_node(rt: &HostRuntime, node: &NodeWords) -> io::Result<()> {
     let secret = hex::encode(rt.alloc(), node.secret.as_slice())?;
-    println!(
-        rt;
+    println!(rt;
         "the command node: member {}, directory \"{}\", secret {secret}, group {},{}, period {}",
         node.id,
         text_of(&node.dir),
