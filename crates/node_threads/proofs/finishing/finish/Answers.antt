@@ -9,6 +9,15 @@ use Rattle.node_seat.specs.Seats.{payloads, IsFirst, HasWrittenFirst}
 use Rattle.node_threads.proofs.Joined.{first_of_front, front_of_first, all_taken}
 use Rattle.node_threads.proofs.finishing.finish.Goals as goal
 
+pub rejoin-lane-requires : goal.rejoin-lane-requires
+rejoin-lane-requires g c = c.into_parts-core.ensures.lane.0 ∙ c.requires.lane.0 ∙ sym c.into_parts-outward.ensures.lane.1
+
+pub rejoin-came-requires : goal.rejoin-came-requires
+rejoin-came-requires g c = c.requires.links.0 ∙ sym c.into_parts-inner.ensures.from.0
+
+pub rejoin-left-requires : goal.rejoin-left-requires
+rejoin-left-requires g c = c.into_parts-inner.ensures.to.0 ∙ sym c.requires.links.1
+
 pub returns-clause-same : goal.returns-clause-same
 returns-clause-same g c = (c.into_parts-core.ensures.trail ∙ ap (λ i. i.trail) c.into_parts-inner.ensures.inner.0, c.into_parts-inner.ensures.inner.1)
 
