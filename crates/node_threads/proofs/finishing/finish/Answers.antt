@@ -38,7 +38,7 @@ returns-clause-put g c = simp (length-map, length-drop) at (c.rejoin-lane.ensure
 pub returns-clause-lane : goal.returns-clause-lane
 returns-clause-lane g c = (
   omega (arith, c.requires.lane.1, c.into_parts-outward.ensures.store.1, c.rejoin-lane.ensures.firm),
-  c.rejoin-lane.ensures.numbers.1,
+  (c.rejoin-lane.ensures.numbers.1, c.rejoin-lane.ensures.numbers.2),
 )
 
 pub returns-clause-came : goal.returns-clause-came
