@@ -22,8 +22,8 @@ pub last_up : (last place : ℕ) → last ≤ last_then last place
 last_up last place = grind (arith, nat_tests)
 
 -- what the records say
-pub disk-rose : {D : Type 0} (end : LoopEnd) (counts : D → ℕ) (old new : Disks D) → FailsByDisk end counts old new → end ≡ Failed → DiskRose counts old new
-disk-rose end counts old new by = by.rose
+pub disk_rose : {D : Type 0} (end : LoopEnd) (counts : D → ℕ) (old new : Disks D) → FailsByDisk end counts old new → end ≡ Failed → DiskRose counts old new
+disk_rose end counts old new by = by.rose
 
-pub form-cut : (end : LoopEnd) (left : Option (List ℕ)) (i : Intake) → EndsByForm end left i → (frame : ℕ) → end ≡ Form frame → (frame ≡ min (i.count + 1) (2 ^ 64 - 1)) × IsCutOff left i
-form-cut end left i by = by.cut
+pub form_cut : (end : LoopEnd) (left : Option (List ℕ)) (i : Intake) → EndsByForm end left i → (frame : ℕ) → end ≡ Form frame → (frame ≡ min (i.count + 1) (2 ^ 64 - 1)) × IsCutOff left i
+form_cut end left i by = by.cut

@@ -182,6 +182,7 @@ fn step_and_work<
 }
 
 /// Runs the five loops of a node, each in a thread, until all have ended.
+#[tactic(auto, using(crate::proofs::Ends::disk_rose))]
 pub fn run_loops<
     S: Service + Send,
     P: Place<S> + Send,
