@@ -4,7 +4,7 @@ use Rattle.std.proofs.lemmas.Bool.Decides.{nat_tests}
 use Rattle.durable_store.specs.Disks.{DiskRose}
 use Rattle.durable_store.specs.declared.disks.Disks.{Disks}
 use Rattle.check_worker.specs.Hands.{last_then}
-use Rattle.node_ends.specs.Intakes.{Reads, IsCutOff, is_early}
+use Rattle.node_ends.specs.Intakes.{Reads, IsCutOff}
 use Rattle.node_ends.specs.Outlets.{Writes}
 use Rattle.node_ends.specs.declared.intake.Intake.{Intake}
 use Rattle.node_ends.specs.declared.outlet.Outlet.{Outlet}

@@ -1,7 +1,7 @@
-use Rattle.std.proofs.Common.{◌≡◌, ◌∙◌, sym, subst, false, true, List, rules}
+use Rattle.std.proofs.Common.{◌≡◌, ◌∙◌, sym, subst, false, List, rules}
 use Rattle.trail.specs.declared.event.TrailEvent.{TrailEvent}
 use Rattle.trail_rules.specs.Replays.{core_steps, replay}
-use Rattle.node_threads.specs.Settled.{IsSettled, EndsSettled}
+use Rattle.node_threads.specs.Settled.{IsSettled}
 use Rattle.node_threads.proofs.settling.settle.Goals as goal
 
 pub returns-in-Ok : goal.returns-in-Ok
@@ -23,7 +23,7 @@ returns-in-Ok g c = record {
         record {
           before = c.send.new.self.inner.trail.items;
           is = c.in-Ok.ensures.ok.0;
-          settled = subst (λ (l : List TrailEvent). IsSettled (replay step opening l)) (sym sent.0) settled;
+          settled = subst (λ (l : List TrailEvent). IsSettled (replay step opening l)) (sym {A = List TrailEvent} sent.0) settled;
         },
       );
 }
