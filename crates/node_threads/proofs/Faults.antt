@@ -1,5 +1,5 @@
 -- Counts of failures over several calls.
-use Rattle.std.proofs.Common.{◌≡◌, ℕ, Bool, true, false, ◌≤◌, ◌⊎◌, inl, inr, arith}
+use Rattle.std.proofs.Common.{◌≡◌, ℕ, Bool, true, false, ◌≤◌, inl, inr, arith}
 use Rattle.faults.specs.Counts.{Rose}
 use Rattle.durable_store.specs.Disks.{NoneFell, DiskRose}
 use Rattle.store_form.specs.declared.ends.LogFault.{LogFault}

@@ -1,5 +1,9 @@
 -- Words on the ends of loops.
-use Rattle.std.specs.Prelude.{ℕ, Bool, true, false}
+use Rattle.std.specs.Prelude.{◌≡◌, ℕ, ◌+◌, ◌-◌, ◌^◌, min, Bool, true, false, List, Option}
+use Rattle.durable_store.specs.Disks.{DiskRose}
+use Rattle.durable_store.specs.declared.disks.Disks.{Disks}
+use Rattle.node_ends.specs.Intakes.{IsCutOff}
+use Rattle.node_ends.specs.declared.intake.Intake.{Intake}
 use Rattle.node_threads.specs.declared.ending.LoopEnd.{LoopEnd}
 use Rattle.node_threads.specs.declared.ending.LoopEnd.TheVariants.{Done, Over, Form, Failed, NoMemory}
 
@@ -18,3 +22,11 @@ gave_up Over = false
 gave_up (Form n) = true
 gave_up Failed = true
 gave_up NoMemory = true
+
+-- A loop that works on a store fails only for a device whose count of failures rose.
+pub record FailsByDisk {D : Type 0} (end : LoopEnd) (counts : D → ℕ) (old new : Disks D) : Type 0 where
+  pub rose : end ≡ Failed → DiskRose counts old new
+
+-- A loop that reads ends for the form of a frame only where the frame has no whole payload, and tells its number.
+pub record EndsByForm (end : LoopEnd) (left : Option (List ℕ)) (intake : Intake) : Type 0 where
+  pub cut : (frame : ℕ) → end ≡ Form frame → (frame ≡ min (intake.count + 1) (2 ^ 64 - 1)) × IsCutOff left intake

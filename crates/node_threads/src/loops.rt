@@ -1,16 +1,16 @@
 //! The five loops of a node. Each ends once nothing more happens to the node, or once it has done all that
 //! was due at the end of the input.
-ghost use Rattle.std.specs.Prelude.{◌≡◌, ◌≤◌, ◌-◌, ◌+◌, ◌^◌, ℕ, false, min, length, not};
+ghost use Rattle.std.specs.Prelude.{◌≡◌, ◌≤◌, ◌-◌, false, min, length, not};
 ghost use Rattle.std.specs.Io.KnownBytes.{IsAtEnd};
 ghost use Rattle.faults.specs.Counts.{Rose};
-ghost use Rattle.durable_store.specs.Disks.{NoneFell, DiskRose};
+ghost use Rattle.durable_store.specs.Disks.{NoneFell};
 ghost use Rattle.durable_store.specs.Stores.{state_of, Stands};
 ghost use Rattle.log_lane.specs.Lane.{lane_taken, lane_raised};
 ghost use Rattle.group_links.specs.Link.{in_link, out_link, link_taken, link_heard_put};
 ghost use Rattle.queue_ends.specs.Rule.{IsFront};
-ghost use Rattle.node_ends.specs.Intakes.{Reads, IsDone, IsCutOff};
+ghost use Rattle.node_ends.specs.Intakes.{Reads, IsDone};
 ghost use Rattle.node_ends.specs.Outlets.{Writes};
-ghost use Rattle.node_threads.specs.Loops.{is_done, gave_up};
+ghost use Rattle.node_threads.specs.Loops.{is_done, gave_up, FailsByDisk, EndsByForm};
 
 use crate::cell::CellOf;
 use crate::ending::{LoopEnd, end_of_input, end_of_output, end_of_work};
@@ -49,7 +49,7 @@ pub fn receive_loop<S: Service, P: Place<S>, O: Sink, I: Source, G: Gate, R: Wai
     ensures link { in_link intake.new.link ≡ in_link intake.old.link }
     ensures reads { Reads (I.left input.old) (I.left input.new) (not (is_done result)) intake.old intake.new }
     ensures whole { result ≡ LoopEnd.Done → IsAtEnd (I.left input.new) × IsDone intake.new }
-    ensures form { (frame : ℕ) → result ≡ LoopEnd.Form frame → (frame ≡ min (intake.new.count + 1) (2 ^ 64 - 1)) × IsCutOff (I.left input.new) intake.new }
+    ensures form { EndsByForm result (I.left input.new) intake.new }
     ensures cause { result ≡ LoopEnd.Failed → Rose (I.faults input.old) (I.faults input.new) }
     ensures later { I.faults input.old ≤ I.faults input.new }
 {
@@ -190,7 +190,7 @@ pub fn log_loop<S: Service, P: Place<S>, O: Sink, D: Disk, E: Stops, H: Home, G:
     ensures rose { worker.old.store.plan.firm ≤ worker.new.store.plan.firm }
     // All that is firm and was taken is said to be stored.
     ensures raised { result ≡ LoopEnd.Done → min (worker.new.store.plan.firm - H.restored) (length (lane_taken worker.new.lane)) ≤ lane_raised worker.new.lane }
-    ensures cause { result ≡ LoopEnd.Failed → DiskRose D.faults worker.old.store.disks worker.new.store.disks }
+    ensures cause { FailsByDisk result D.faults worker.old.store.disks worker.new.store.disks }
     ensures later { NoneFell D.faults worker.old.store.disks worker.new.store.disks }
 {
     let mut node = CellOf {

@@ -10,7 +10,7 @@ ghost use Rattle.group_links.specs.Link.{in_link, out_link, link_taken, link_hea
 ghost use Rattle.queue_ends.specs.Rule.{IsFront};
 ghost use Rattle.node_ends.specs.Intakes.{Reads, IsDone, IsCutOff};
 ghost use Rattle.node_ends.specs.Outlets.{Writes};
-ghost use Rattle.node_threads.specs.Loops.{is_done, gave_up};
+ghost use Rattle.node_threads.specs.Loops.{is_done, gave_up, FailsByDisk};
 
 use crate::ending::{Ends, LoopEnd};
 use crate::loops::{check_loop, deliver_loop, log_loop, receive_loop, send_loop};
@@ -76,7 +76,7 @@ fn log_and_check<
     requires sound { D.told → Stands (state_of D.cells worker.old.store) }
     ensures rose { worker.old.store.plan.firm ≤ worker.new.store.plan.firm }
     ensures raised { result.logged ≡ LoopEnd.Done → min (worker.new.store.plan.firm - H.restored) (length (lane_taken worker.new.lane)) ≤ lane_raised worker.new.lane }
-    ensures cause { result.logged ≡ LoopEnd.Failed → DiskRose D.faults worker.old.store.disks worker.new.store.disks }
+    ensures cause { FailsByDisk result.logged D.faults worker.old.store.disks worker.new.store.disks }
     ensures later { NoneFell D.faults worker.old.store.disks worker.new.store.disks }
     ensures rises { checker.old.last ≤ checker.new.last }
     ensures no_disk { result.checked ≡ LoopEnd.Failed → ⊥ }
@@ -118,7 +118,7 @@ fn send_and_work<
     ensures sent { result.sent ≡ LoopEnd.Failed → Rose (W.faults output.old) (W.faults output.new) }
     ensures rose { worker.old.store.plan.firm ≤ worker.new.store.plan.firm }
     ensures raised { result.work.logged ≡ LoopEnd.Done → min (worker.new.store.plan.firm - H.restored) (length (lane_taken worker.new.lane)) ≤ lane_raised worker.new.lane }
-    ensures logged { result.work.logged ≡ LoopEnd.Failed → DiskRose D.faults worker.old.store.disks worker.new.store.disks }
+    ensures logged { FailsByDisk result.work.logged D.faults worker.old.store.disks worker.new.store.disks }
     ensures checked { result.work.checked ≡ LoopEnd.Failed → ⊥ }
     ensures later { (W.faults output.old ≤ W.faults output.new) × NoneFell D.faults worker.old.store.disks worker.new.store.disks }
 {
@@ -163,7 +163,7 @@ fn step_and_work<
     ensures sent { result.out.sent ≡ LoopEnd.Failed → Rose (W.faults output.old) (W.faults output.new) }
     ensures rose { worker.old.store.plan.firm ≤ worker.new.store.plan.firm }
     ensures raised { result.out.work.logged ≡ LoopEnd.Done → min (worker.new.store.plan.firm - H.restored) (length (lane_taken worker.new.lane)) ≤ lane_raised worker.new.lane }
-    ensures logged { result.out.work.logged ≡ LoopEnd.Failed → DiskRose D.faults worker.old.store.disks worker.new.store.disks }
+    ensures logged { FailsByDisk result.out.work.logged D.faults worker.old.store.disks worker.new.store.disks }
     ensures checked { result.out.work.checked ≡ LoopEnd.Failed → ⊥ }
     ensures later { (W.faults output.old ≤ W.faults output.new) × NoneFell D.faults worker.old.store.disks worker.new.store.disks }
 {
@@ -182,6 +182,7 @@ fn step_and_work<
 }
 
 /// Runs the five loops of a node, each in a thread, until all have ended.
+#[tactic(auto, using(crate::proofs::Ends::disk_rose))]
 pub fn run_loops<
     S: Service + Send,
     P: Place<S> + Send,

@@ -1,4 +1,4 @@
-use Rattle.std.proofs.Common.{arith}
+use Rattle.std.proofs.Common.{Err, ap, arith}
 use Rattle.node_threads.proofs.Faults.{fell_none, fell_after, disk_failed}
 use Rattle.node_threads.proofs.loops.log_loop.Goals as goal
 
@@ -16,8 +16,10 @@ loop-preserved g c =
     }
 
 pub returns-in-Err-clause-cause : goal.returns-in-Err-clause-cause
-returns-in-Err-clause-cause g c = λ is.
-    disk_failed g.D.Disk.faults _ _ _ c.in-Err.fault c.loop.invariant.later c.in-Err.ensures.cause c.in-Err.ensures.not_closed (c.end_of_work.ensures.failed is)
+returns-in-Err-clause-cause g c = record {
+  rose = λ is.
+      disk_failed g.D.Disk.faults _ _ _ c.in-Err.fault c.loop.invariant.later (λ e. c.in-Err.ensures.cause (ap Err e)) (λ e. c.in-Err.ensures.not_closed (ap Err e)) (c.end_of_work.ensures.failed is);
+}
 
 pub returns-in-Err-clause-later : goal.returns-in-Err-clause-later
 returns-in-Err-clause-later g c = fell_after g.D.Disk.faults _ _ _ c.loop.invariant.later c.in-Err.ensures.later
