@@ -1,16 +1,23 @@
 //! Laws of audits of inputs. They speak of the definitions alone.
-ghost use Rattle.std.specs.Prelude.{◌≡◌, ◌≤◌, ℕ, List, Option, Some};
-ghost use Rattle.audit_rules.specs.Readings.{AreRead};
+ghost use Rattle.std.specs.Prelude.{◌≡◌, ◌<◌, ◌⊎◌, ◌++◌, ◌∷◌, [], ℕ, List, Option, Some, length};
+ghost use Rattle.audit_rules.specs.Readings.{AreRead, StopsAt};
 ghost use Rattle.audit_rules.specs.declared.recorded.Recorded.{Recorded};
-ghost use Rattle.audit_rules.specs.declared.recorded.TheConstants.{PARTS};
 ghost use Rattle.audit_play.specs.Ends.{Ended};
 ghost use Rattle.audit_play.specs.declared.status.AuditStatus.{AuditStatus};
-ghost use Rattle.audit_laws.specs.Completeness.{IsOfTrails};
+ghost use Rattle.audit_laws.specs.Completeness.{IsOfTrails, IsOfFront};
 
-/// An input that is trails, of at most 2^24 parts, is audited: no part of it is told as lacking, as one
-/// that cannot be read, or as one too many. The audit ends with its verdict, by a fault, or for want of
-/// memory.
+/// An input that is trails is audited: no part of it is told as lacking, as one that cannot be read, or as
+/// one too many. The audit ends with its verdict, by a fault, or for want of memory.
 pub fn trails_that_can_be_read_are_audited()
-    ensures { (left left' written written' : Option (List ℕ)) (wants wants' : ℕ) (input : List ℕ) (trails : List Recorded) (read : AreRead input trails) (status : AuditStatus) →
-        left ≡ Some input → read.count ≤ PARTS → Ended left left' written written' wants wants' status → IsOfTrails status }
+    ensures { (left left' written written' : Option (List ℕ)) (wants wants' : ℕ) (input : List ℕ) (trails : List Recorded) (status : AuditStatus) →
+        left ≡ Some input → AreRead input trails → Ended left left' written written' wants wants' status → IsOfTrails status }
+{}
+
+/// Bytes that are one trail have no proper front that is trails. A front without bytes has no part. Any
+/// other one has a part that is lacking or cannot be read, and an audit tells such a part, unless its input
+/// fails or memory is wanted.
+pub fn a_front_of_a_trail_is_refused()
+    ensures stops { (front rest : List ℕ) (trail : Recorded) → AreRead (front ++ rest) (trail ∷ []) → 0 < length rest → (front ≡ []) ⊎ ((part : ℕ) × StopsAt front part) }
+    ensures ended { (left left' written written' : Option (List ℕ)) (wants wants' : ℕ) (front rest : List ℕ) (trail : Recorded) (status : AuditStatus) →
+        AreRead (front ++ rest) (trail ∷ []) → 0 < length rest → left ≡ Some front → Ended left left' written written' wants wants' status → IsOfFront status }
 {}
