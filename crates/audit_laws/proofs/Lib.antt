@@ -1,3 +1,4 @@
 pub mod Complete
 pub mod Exclusive
 pub mod Fronts
+pub mod Rereading

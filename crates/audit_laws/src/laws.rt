@@ -5,6 +5,14 @@ ghost use Rattle.audit_rules.specs.declared.recorded.Recorded.{Recorded};
 ghost use Rattle.audit_play.specs.Ends.{Ended};
 ghost use Rattle.audit_play.specs.declared.status.AuditStatus.{AuditStatus};
 ghost use Rattle.audit_laws.specs.Completeness.{IsOfTrails, IsOfFront};
+ghost use Rattle.audit_laws.specs.Written.{AreWritten, texts_of};
+
+/// The texts of trails, one after the other, are read as these trails. Each trail fits its bytes, has so many
+/// entries as its opening tells, and ends with its only End. Its member could begin so. No two trails have
+/// one number.
+pub fn what_is_written_is_read()
+    ensures { (trails : List Recorded) → AreWritten trails → AreRead (texts_of trails) trails }
+{}
 
 /// An input that is trails is audited: no part of it is told as lacking, as one that cannot be read, or as
 /// one too many. The audit ends with its verdict, by a fault, or for want of memory.
