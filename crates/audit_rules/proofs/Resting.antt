@@ -1,6 +1,6 @@
 -- What a node holds waits for entries that its book has. So if all entries are firm and no message leaves, none is held.
 use Rattle.std.proofs.Common.{◌≡◌, ◌≤◌, ◌++◌, ◌∙◌, ◌&&◌, ℕ, Bool, true, false, cond, List, [], ◌∷◌, length, Option, Some, None, Result, Ok, Err, refl, ap, sym, subst, arith, length-append}
-use Rattle.std.proofs.lemmas.Bool.{leb-true, le-leb}
+use Rattle.std.proofs.lemmas.Bool.{leb-true, le-leb, ne_eqb}
 use Rattle.std.specs.Prelude.{◌==◌, nat_le, is_none}
 use Rattle.smart_base.specs.Lists.{Each}
 use Rattle.smart_base.proofs.ViewFacts.{each-weaken}
@@ -11,6 +11,7 @@ use Rattle.smart_statements.specs.declared.statement.Request.{Request}
 use Rattle.smart_statements.specs.declared.entry.NodeEvent.{NodeEvent}
 use Rattle.smart_messages.specs.declared.message.Message.{Message}
 use Rattle.smart_messages.specs.declared.message.Message.TheVariants.{Ask, Reply}
+use Rattle.smart_messages.specs.declared.message.Message.TheVariants as changes
 use Rattle.smart_messages.specs.declared.message.Proposed.{Proposed}
 use Rattle.smart_messages.specs.declared.regency.Sync.{Sync}
 use Rattle.smart_service.specs.Services.{Meaning}
@@ -33,7 +34,7 @@ use Rattle.node_rules.specs.Nodes.{Node, holding, holding_all}
 use Rattle.node_rules.specs.Reopening.{reopened, reopened_from, outset_from, entries_in}
 use Rattle.node_rules.specs.Rules.{replies_with, replying, lines_to_answer, deliver_batch, delivers, proposing, propose_batch, proposes, writing, write_batch, writes, accepting, accept_batch, accepts, deciding, decide_batch, decides, answering, answer_line, answers_again}
 use Rattle.node_rules.specs.Steps.{Outset, step_of, first_leaving, after_first}
-use Rattle.node_rules.specs.Transfers.{is_of_group, spoil, install_replica, install_by, installing, install_fetch, installs, offers_state, part_messages, gives_parts, answers_state, planning, follow_plan, plans}
+use Rattle.node_rules.specs.Transfers.{is_of_group, spoil, install_replica, install_by, installing, install_fetch, installs, offer_for, shown_after, offers_state, part_messages, gives_parts, answers_state, planning, follow_plan, plans}
 use Rattle.node_rules.specs.declared.node.Asked.{Asked}
 use Rattle.node_rules.specs.declared.node.Held.{Held}
 use Rattle.node_rules.specs.declared.node.Target.{Target}
@@ -206,7 +207,7 @@ within-mark m n within = within-end _ n.held _ _ (within-more n.entries _ n.held
 within-answers_state : {S : Type 0} (n : Node S) (a : StateAsk) → WaitsWithin n → WaitsWithin (answers_state n a)
 unfolding answers_state offers_state gives_parts
 within-answers_state n a within =
-    one-of (a.fetch == 0) (offers_state n a) (gives_parts n a) (within-holding_all _ n (targets.Node a.member) within)
+    one-of (a.fetch == 0) (offers_state n a) (gives_parts n a) (within-holding_all (changes.StateOffer (offer_for n a.place) ∷ shown_after n a.place) n (targets.Node a.member) within)
     (within-holding_all (part_messages (firm_at n a.fetch)) n (targets.Node a.member) within)
 
 within-follow_plan : {S : Type 0} (n : Node S) (plan : Option Plan) → WaitsWithin n → WaitsWithin (follow_plan n plan)
@@ -305,12 +306,15 @@ within-begun m t = subst (λ (held : List Held). AreWithin (length (first_node m
 
 -- ---- at rest
 
+some-held : (h : Held) (hs : List Held) → (length (h ∷ hs) == 0) ≡ false
+some-held h hs = ne_eqb (length (h ∷ hs)) 0 (λ is. absurd (omega (arith, is)))
+
 -- the first of several leaves if all entries are firm
 first-leaves : (h : Held) (hs : List Held) (count firm : ℕ) (all : Bool) → nat_le count firm ≡ all → h.needs ≤ count → (all && is_none (first_leaving firm (h ∷ hs))) ≡ (all && (length (h ∷ hs) == 0))
 first-leaves h hs count firm false is few = refl
 first-leaves h hs count firm true is few =
     let least = leb-true count firm is in
-    rw (le-leb h.needs firm (omega (arith, least, few))) refl
+    rw (le-leb h.needs firm (omega (arith, least, few)), some-held h hs) refl
 
 held-seen : (count firm : ℕ) (held : List Held) → AreWithin count held → (nat_le count firm && is_none (first_leaving firm held)) ≡ (nat_le count firm && (length held == 0))
 held-seen count firm [] within = refl
