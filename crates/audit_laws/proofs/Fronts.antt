@@ -45,7 +45,7 @@ then-stays : {A B : Type 0} (ys : List ℕ) (f g : Read A) (h : A × Cut → Rea
 then-stays ys (Err at) g h first next = λ y e is. absurd (cc)
 then-stays {A} ys (Ok (x, d)) g h first next = λ y e is. ap (λ (r : Read A). r >>= h) (first x d refl) ∙ next x d y e is
 
-fixed-if : (n : ℕ) (c : Cut) (ys : List ℕ) (few : Bool) (x d : Cut) → nat_lt (length c.left) n ≡ few → cond few (Err c.at) (Ok (front n c, past n c)) ≡ Ok (x, d) → fixed_at n (behind c ys) ≡ Ok (x, behind d ys)
+fixed-if : (n : ℕ) (c : Cut) (ys : List ℕ) (few : Bool) (x d : Cut) → nat_lt (length c.left) n ≡ few → cond {A = Read Cut} few (Err c.at) (Ok (front n c, past n c)) ≡ Ok (x, d) → fixed_at n (behind c ys) ≡ Ok (x, behind d ys)
 fixed-if n c ys true x d few is = absurd (cc)
 fixed-if n c ys false x d few is =
     let least : n ≤ length c.left = ltb-false (length c.left) n few in

@@ -115,7 +115,8 @@ module _ (bytes : List ℕ) where
       → length t.entries + length es ≡ t.opening.entries → ComesTo bytes count (begun ts t) (flat_map part es ++ rest)
       → ComesTo bytes (length es + count) (begun ts (record t { entries = t.entries ++ es })) rest
   with-entries ts [] count t rest short none all so_far =
-      as-read count (begun ts t) (begun ts (record t { entries = t.entries ++ [] })) rest (ap (λ (xs : List (List ℕ)). begun ts (record t { entries = xs })) (sym (append-nil t.entries))) so_far
+      as-count count (length {A = List ℕ} [] + count) (begun ts (record t { entries = t.entries ++ [] })) rest (omega arith)
+      (as-read count (begun ts t) (begun ts (record t { entries = t.entries ++ [] })) rest (ap (λ (xs : List (List ℕ)). begun ts (record t { entries = xs })) (sym (append-nil t.entries))) so_far)
   with-entries ts (e ∷ es) count t rest short none all so_far =
       let member : is_client t ≡ false = never-empty (is_client t) e es none in
       let u : Recorded = record t { entries = t.entries ++ e ∷ [] } in
@@ -123,14 +124,15 @@ module _ (bytes : List ℕ) where
       let next = one-more count (begun ts t) (begun ts u) e (flat_map part es ++ rest) here short.0 (entry-taken ts t e member (omega (arith, all))) in
       let long = length-append t.entries (e ∷ []) in
       let later = with-entries ts es (suc count) u rest short.1 (λ client. absurd (both (is_client t) member client)) (omega (arith, long, all)) next in
-      let moved = as-count (length es + suc count) (suc (length es + count)) (begun ts (record u { entries = u.entries ++ es })) rest (omega arith) later in
-      as-read (suc (length es + count)) (begun ts (record u { entries = u.entries ++ es })) (begun ts (record t { entries = t.entries ++ e ∷ es })) rest
+      let moved = as-count (length es + suc count) (length (e ∷ es) + count) (begun ts (record u { entries = u.entries ++ es })) rest (omega arith) later in
+      as-read (length (e ∷ es) + count) (begun ts (record u { entries = u.entries ++ es })) (begun ts (record t { entries = t.entries ++ e ∷ es })) rest
       (ap (λ (xs : List (List ℕ)). begun ts (record t { entries = xs })) (append_assoc t.entries (e ∷ []) es)) moved
 
   with-events : (ts : List Recorded) (es : List TrailEvent) (count : ℕ) (t : Recorded) (rest : List ℕ) → Each IsWithin es → (is_client t ≡ true → Each (λ e. may_happen e ≡ true) es)
       → t.opening.entries ≤ length t.entries → ComesTo bytes count (begun ts t) (events_text es ++ rest) → ComesTo bytes (length es + count) (begun ts (record t { events = t.events ++ es })) rest
   with-events ts [] count t rest within may all so_far =
-      as-read count (begun ts t) (begun ts (record t { events = t.events ++ [] })) rest (ap (λ (xs : List TrailEvent). begun ts (record t { events = xs })) (sym (append-nil t.events))) so_far
+      as-count count (length {A = TrailEvent} [] + count) (begun ts (record t { events = t.events ++ [] })) rest (omega arith)
+      (as-read count (begun ts t) (begun ts (record t { events = t.events ++ [] })) rest (ap (λ (xs : List TrailEvent). begun ts (record t { events = xs })) (sym (append-nil t.events))) so_far)
   with-events ts (e ∷ es) count t rest within may all so_far =
       let u : Recorded = with_event t e in
       let here =
@@ -139,8 +141,8 @@ module _ (bytes : List ℕ) where
       one-more count (begun ts t) (begun ts u) (event_text e) (events_text es ++ rest) here within.0.short
       (event-taken ts t e false within.0.goes_on (events.spelling-is e within.0.fits) all (λ client. (may client).0)) in
       let later = with-events ts es (suc count) u rest within.1 (λ client. (may client).1) all next in
-      let moved = as-count (length es + suc count) (suc (length es + count)) (begun ts (record u { events = u.events ++ es })) rest (omega arith) later in
-      as-read (suc (length es + count)) (begun ts (record u { events = u.events ++ es })) (begun ts (record t { events = t.events ++ e ∷ es })) rest
+      let moved = as-count (length es + suc count) (length (e ∷ es) + count) (begun ts (record u { events = u.events ++ es })) rest (omega arith) later in
+      as-read (length (e ∷ es) + count) (begun ts (record u { events = u.events ++ es })) (begun ts (record t { events = t.events ++ e ∷ es })) rest
       (ap (λ (xs : List TrailEvent). begun ts (record t { events = xs })) (append_assoc t.events (e ∷ []) es)) moved
 
 -- ---- a trail
@@ -193,7 +195,9 @@ module _ (bytes : List ℕ) (ts : List Recorded) (t : Recorded) (written : IsWri
       (opening-taken ts t.opening new (openings.spelling-is t.opening written.opening))
 
   at-entries : ComesTo bytes (length t.entries + suc before) (begun ts entered) behind_entries
-  at-entries = with-entries bytes ts t.entries (suc before) opened behind_entries written.texts written.none written.entries at-opening
+  at-entries =
+      let all = written.entries in
+      with-entries bytes ts t.entries (suc before) opened behind_entries written.texts written.none (omega (arith, all)) at-opening
 
   at-events : ComesTo bytes (length written.events + (length t.entries + suc before)) (begun ts going) end_and_rest
   at-events =
@@ -223,7 +227,8 @@ module _ (bytes : List ℕ) (ts : List Recorded) (t : Recorded) (written : IsWri
 -- ---- trails
 
 trails-read : (bytes : List ℕ) (us ts : List Recorded) (before : ℕ) → Each IsWritten us → AreApart ts us → ComesTo bytes before (whole ts) (texts_of us) → ComesTo bytes (parts_of us + before) (whole (ts ++ us)) []
-trails-read bytes [] ts before written apart so_far = as-read bytes before (whole ts) (whole (ts ++ [])) [] (ap whole (sym (append-nil ts))) so_far
+trails-read bytes [] ts before written apart so_far =
+    as-count bytes before (parts_of [] + before) (whole (ts ++ [])) [] (omega arith) (as-read bytes before (whole ts) (whole (ts ++ [])) [] (ap whole (sym (append-nil ts))) so_far)
 trails-read bytes (u ∷ us) ts before written apart so_far =
     let here = trail-read bytes ts u written.0 apart.0 before (texts_of us) so_far in
     let later = trails-read bytes us (ts ++ u ∷ []) (part_count u + before) written.1 apart.1 here in
