@@ -1,10 +1,9 @@
 -- No proper front of a trail's bytes is trails.
-use Rattle.std.proofs.Common.{◌≡◌, ◌∙◌, ◌⊎◌, ℕ, zero, suc, ◌+◌, ◌-◌, ◌<◌, ◌≤◌, Bool, true, false, cond, List, [], ◌∷◌, ◌++◌, length, take, drop, Option, Some, None, refl, ap, sym, subst, inl, inr, arith, length-append}
+use Rattle.std.proofs.Common.{◌≡◌, ◌∙◌, ◌⊎◌, ℕ, zero, suc, ◌+◌, ◌<◌, ◌≤◌, Bool, true, false, cond, List, [], ◌∷◌, ◌++◌, length, Option, Some, None, refl, ap, sym, subst, inl, inr, arith, length-append}
 use Rattle.std.proofs.lemmas.Bool.{ltb-false, le-ltb}
 use Rattle.std.proofs.lemmas.List.{take-append-le, drop-append-le}
 use Rattle.std.specs.Prelude.{Result, Ok, Err, nat_lt, not, ◌||◌, is_some, option_map}
 use Rattle.std.specs.Int.{Width, w32, byte_len, from_be_bytes}
-use Rattle.std.specs.Io.KnownBytes.{Appends, Consumes, IsAtEnd}
 use Rattle.std.specs.Option.{option_and_then}
 use Rattle.smart_base.specs.Cuts.{Cut, Read, ◌>>=◌, fixed_at, front, past, number_at, ranged, anything, fault_at, text_at, bytes_at, contents}
 use Rattle.trail.specs.Events.{event_decoded}
@@ -16,12 +15,12 @@ use Rattle.audit_rules.specs.declared.recorded.Reading.{Reading}
 use Rattle.audit_rules.specs.declared.recorded.TheConstants.{PARTS}
 use Rattle.audit_rules.specs.Audits.{is_client}
 use Rattle.audit_rules.specs.Readings.{unread, is_known, beginning, opening_taken, entry_taken, may_happen, is_end, with_event, event_added, event_taken, part_taken, takes, Reached, reaches, next_part, after_parts, parts_read, damaged_part, all_begun, AreRead, StopsAt, PassesLimit}
-use Rattle.audit_play.specs.Ends.{AreCoherent, AreDifferent, AreBegun, Ended}
+use Rattle.audit_play.specs.Ends.{Ended}
 use Rattle.audit_play.specs.declared.status.AuditStatus.{AuditStatus}
 use Rattle.audit_play.specs.declared.status.AuditStatus.TheVariants as ends
 use Rattle.audit_laws.specs.Completeness.{IsOfFront}
 use Rattle.audit_laws.proofs.Complete.{same-input}
-use Rattle.audit_laws.proofs.Exclusive.{IsDamaged, after-step, no-bytes, passes-at, never-empty, never-stops, some-one, stuck, undamaged}
+use Rattle.audit_laws.proofs.Exclusive.{after-step, no-bytes, passes-at, never-empty, never-stops, some-one, stuck, undamaged}
 
 -- ---- a field that can be read, can be with more bytes behind it
 

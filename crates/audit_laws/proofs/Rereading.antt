@@ -1,7 +1,7 @@
 -- Trails that were written are read as they are.
 use Rattle.std.proofs.Common.{◌≡◌, ◌∙◌, ◌<◌, ◌≤◌, ◌^◌, ℕ, suc, ◌+◌, Bool, true, false, cond, List, [], ◌∷◌, ◌++◌, length, Option, Some, None, refl, ap, sym, subst, arith, append-nil, append_assoc, length-append}
 use Rattle.std.proofs.lemmas.Bool.{lt-ltb, le-ltb}
-use Rattle.std.specs.Prelude.{Result, Ok, Err, nat_lt, not, ◌||◌, option_map}
+use Rattle.std.specs.Prelude.{Ok, not, ◌||◌, option_map}
 use Rattle.std.specs.Int.{w32}
 use Rattle.std.specs.List.{flat_map}
 use Rattle.std.specs.Option.{option_and_then}
@@ -11,7 +11,7 @@ use Rattle.smart_base.specs.Lists.{Each}
 use Rattle.smart_base.specs.Spelling.{Law, behind}
 use Rattle.trail.specs.Events.{event_text, event_decoded}
 use Rattle.trail.specs.Openings.{opening_text, opening_decoded, text_field_at}
-use Rattle.trail.specs.Trails.{part, events_text, trail_text}
+use Rattle.trail.specs.Trails.{part, events_text}
 use Rattle.trail.specs.declared.event.TrailEvent.{TrailEvent}
 use Rattle.trail.specs.declared.event.TrailEvent.TheVariants.{End}
 use Rattle.trail.specs.declared.opening.TrailOpening.{TrailOpening}
@@ -19,9 +19,8 @@ use Rattle.trail.proofs.Opened as openings
 use Rattle.trail.proofs.Spelled as events
 use Rattle.audit_rules.specs.declared.recorded.Recorded.{Recorded}
 use Rattle.audit_rules.specs.declared.recorded.Reading.{Reading}
-use Rattle.audit_rules.specs.declared.recorded.TheConstants.{PARTS}
 use Rattle.audit_rules.specs.Audits.{is_client, CanBegin}
-use Rattle.audit_rules.specs.Readings.{unread, is_known, beginning, opening_taken, may_happen, is_end, with_event, takes, Reached, reaches, next_part, after_parts, parts_read, part_count, AreRead}
+use Rattle.audit_rules.specs.Readings.{unread, is_known, beginning, may_happen, is_end, with_event, takes, Reached, reaches, next_part, after_parts, parts_read, part_count, AreRead}
 use Rattle.audit_laws.specs.Written.{IsShort, IsWithin, IsWritten, AreApart, AreWritten, parts_of, text_of, texts_of}
 
 -- ---- one part
