@@ -39,7 +39,7 @@ or-step : (d x y : Option ℕ) (k : ℕ) → (x ≡ Some k → y ≡ Some k) →
 or-step None x y k keeps is = keeps is
 or-step (Some e) x y k keeps is = is
 
-some-one : {A : Type 0} (x y : A) → Some x ≡ Some y → x ≡ y
+pub some-one : {A : Type 0} (x y : A) → Some x ≡ Some y → x ≡ y
 some-one x y is = cc
 
 -- ---- a damaged entry stays the first one, also before more entries
@@ -92,7 +92,7 @@ damaged-last before (x ∷ ts) t u k keeps is =
     (damaged-last (before + part_count x) ts t u k keeps) is
 
 -- a part of all trails of a reading that is damaged
-abbrev IsDamaged : Reading → ℕ → Type 0
+abbrev pub IsDamaged : Reading → ℕ → Type 0
 IsDamaged r k = damaged_part 0 (all_begun r) ≡ Some k
 
 -- one more part
@@ -165,7 +165,7 @@ then-step : (x : Option Reached) (y : Reached) (k : ℕ) → option_and_then nex
 then-step None y k is keeps = absurd (cc)
 then-step (Some z) y k is keeps = next-step z y k is (keeps z refl)
 
-after-step : (n m : ℕ) (s : Option Reached) (x y : Reached) (k : ℕ) → after_parts n s ≡ Some x → after_parts (n + m) s ≡ Some y → IsDamaged x.reading k → IsDamaged y.reading k
+pub after-step : (n m : ℕ) (s : Option Reached) (x y : Reached) (k : ℕ) → after_parts n s ≡ Some x → after_parts (n + m) s ≡ Some y → IsDamaged x.reading k → IsDamaged y.reading k
 after-step n zero s x y k first last damaged =
     let none : n + 0 ≡ n = omega arith in
     subst (λ (z : Reached). IsDamaged z.reading k) (some-one x y (sym first ∙ subst (λ (j : ℕ). after_parts j s ≡ Some y) none last)) damaged
@@ -183,7 +183,7 @@ none-later n (suc m) s none =
     let sum : suc (n + m) ≡ n + suc m = omega arith in
     subst (λ (j : ℕ). after_parts j s ≡ None) sum (ap (λ (x : Option Reached). option_and_then next_part x) (none-later n m s none))
 
-stuck : (n m : ℕ) (s : Option Reached) (x : Reached) → after_parts n s ≡ Some x → next_part x ≡ None → after_parts (n + suc m) s ≡ None
+pub stuck : (n m : ℕ) (s : Option Reached) (x : Reached) → after_parts n s ≡ Some x → next_part x ≡ None → after_parts (n + suc m) s ≡ None
 stuck n m s x here none =
     let sum : suc n + m ≡ n + suc m = omega arith in
     subst (λ (k : ℕ). after_parts k s ≡ None) sum (none-later (suc n) m s (ap (λ (y : Option Reached). option_and_then next_part y) here ∙ none))
@@ -192,7 +192,7 @@ none-empty : (r : Reading) (at : ℕ) → next_part (record { reading = r; cut =
 unfolding next_part contents text_at ranged number_at
 none-empty r at = refl
 
-no-bytes : (xs : List ℕ) → length xs ≡ 0 → xs ≡ []
+pub no-bytes : (xs : List ℕ) → length xs ≡ 0 → xs ≡ []
 no-bytes [] is = refl
 no-bytes (x ∷ xs) is = absurd (omega (arith, is))
 
@@ -245,7 +245,7 @@ module _ (bytes : List ℕ) (trails : List Recorded) (read : AreRead bytes trail
   beyond m = stuck read.count m start whole here (none-next whole read.all)
 
   -- the reading of all parts has no damaged part
-  undamaged : (k : ℕ) → IsDamaged whole.reading k → ⊥
+  pub undamaged : (k : ℕ) → IsDamaged whole.reading k → ⊥
   undamaged k damaged =
       some-none (damaged_part 0 trails) k (ap (λ (ts : List Recorded). damaged_part 0 ts) (sym (append-nil trails)) ∙ damaged) (none-damaged 0 trails read.begin)
 
@@ -289,12 +289,12 @@ module _ (bytes : List ℕ) (trails : List Recorded) (read : AreRead bytes trail
   limit-case n x few at more (inr (inl same)) = not-left x more (some-one x whole (sym at ∙ subst (λ (k : ℕ). after_parts k start ≡ Some whole) (sym same) here))
   limit-case n x few at more (inr (inr behind)) = some-none (after_parts n start) x at (subst (λ (k : ℕ). after_parts k start ≡ None) (sym behind.1) (beyond behind.0))
 
-  passes-at : (n : ℕ) (x : Reached) → read.count ≤ n → parts_read bytes n ≡ Some x → 0 < length x.cut.left → ⊥
+  pub passes-at : (n : ℕ) (x : Reached) → read.count ≤ n → parts_read bytes n ≡ Some x → 0 < length x.cut.left → ⊥
   unfolding parts_read
   passes-at n x few at more = limit-case n x few at more (compare n read.count)
 
-  pub never-passes : (part : ℕ) → read.count ≤ PARTS → PassesLimit bytes part → ⊥
-  never-passes part few p = passes-at PARTS p.last few p.reached p.more
+  pub never-passes : (part : ℕ) → PassesLimit bytes part → ⊥
+  never-passes part p = passes-at PARTS p.last read.few p.reached p.more
 
   pub never-empty : bytes ≡ [] → ⊥
   never-empty none =

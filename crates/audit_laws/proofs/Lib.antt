@@ -1,2 +1,5 @@
 pub mod Complete
 pub mod Exclusive
+pub mod Fronts
+pub mod Rereading
+pub mod Headed

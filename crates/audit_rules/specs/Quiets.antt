@@ -22,9 +22,13 @@ use Rattle.audit_rules.specs.Audits.{first_node, is_client}
 
 -- ---- at rest
 
--- a node at which no batch waits, all entries are firm, and no message leaves any more
+-- a node at which no batch waits, all entries are firm, and no message is held
 abbrev pub is_at_rest : {S : Type 0} → Node S → Bool
-is_at_rest n = is_none n.waiting && (nat_le (length n.entries) n.firm && is_none (first_leaving n.firm n.held))
+is_at_rest n = is_none n.waiting && (nat_le (length n.entries) n.firm && (length n.held == 0))
+
+-- what a node's calls tell of it: no batch waits, all entries are firm, and no message leaves
+abbrev pub seems_at_rest : {S : Type 0} → Node S → Bool
+seems_at_rest n = is_none n.waiting && (nat_le (length n.entries) n.firm && is_none (first_leaving n.firm n.held))
 
 abbrev pub rests_over : {S : Type 0} → Meaning S → Recorded → Bool
 rests_over m t = is_at_rest (replay (node_step m) (first_node m t) t.events)

@@ -1,5 +1,5 @@
 -- How recorded runs are read: trails one after the other, part by part.
-use Rattle.std.specs.Prelude.{◌≡◌, ◌⊎◌, ℕ, zero, suc, ◌+◌, ◌<◌, ◌==◌, nat_lt, Bool, true, false, not, ◌||◌, List, [], ◌∷◌, ◌++◌, length, if◌then◌else◌, Option, Some, None, is_some, option_map, option_to_list, Result, Ok, Err}
+use Rattle.std.specs.Prelude.{◌≡◌, ◌⊎◌, ℕ, zero, suc, ◌+◌, ◌<◌, ◌≤◌, ◌==◌, nat_lt, Bool, true, false, not, ◌||◌, List, [], ◌∷◌, ◌++◌, length, if◌then◌else◌, Option, Some, None, is_some, option_map, option_to_list, Result, Ok, Err}
 use Rattle.std.specs.Option.{option_and_then}
 use Rattle.std.specs.List.{list_any}
 use Rattle.smart_base.specs.Cuts.{Cut, Read}
@@ -127,10 +127,11 @@ all_begun r = r.trails ++ option_to_list r.begun
 
 -- ---- the whole
 
--- Recorded runs that bytes are: at least one trail, each of them whole, of members that could begin so.
+-- Recorded runs that bytes are: at least one trail, each of them whole, of members that could begin so. They have 2^24 parts at most.
 pub record AreRead (bytes : List ℕ) (trails : List Recorded) : Type 0 where
   pub count : ℕ
   pub some : 0 < count
+  pub few : count ≤ PARTS
   pub last : Cut
   pub reached : parts_read bytes count ≡ Some (record { reading = record { trails = trails; begun = None }; cut = last })
   pub all : length last.left ≡ 0
@@ -145,9 +146,10 @@ abbrev pub Refuses : ℕ → Reached → Type 0
 Refuses count x = (count < PARTS) × ((0 < length x.cut.left) × (next_part x ≡ None))
 
 -- The first part that cannot be read has this number. It is a damaged one of a member's beginning. Or the parts before it can be read, and it is
--- lacking or cannot be.
+-- lacking or cannot be. At most 2^24 parts are read.
 pub record StopsAt (bytes : List ℕ) (part : ℕ) : Type 0 where
   pub count : ℕ
+  pub few : count ≤ PARTS
   pub last : Reached
   pub reached : parts_read bytes count ≡ Some last
   pub cause : (damaged_part 0 (all_begun last.reading) ≡ Some part) ⊎ ((damaged_part 0 (all_begun last.reading) ≡ None) × ((part ≡ count + 1) × (Lacks last ⊎ Refuses count last)))

@@ -9,7 +9,7 @@ ghost use Rattle.trail_rules.specs.Replays.{Step, node_step, core_steps, replay,
 ghost use Rattle.audit_rules.specs.declared.recorded.Recorded.{Recorded};
 ghost use Rattle.audit_rules.specs.Audits.{first_node, member_difference, first_difference};
 ghost use Rattle.audit_rules.specs.Coherence.{Coherent, Leaves};
-ghost use Rattle.audit_rules.specs.Quiets.{is_at_rest, sent_from};
+ghost use Rattle.audit_rules.specs.Quiets.{is_at_rest, seems_at_rest, sent_from};
 
 use smart_service::service::Service;
 
@@ -36,4 +36,12 @@ pub fn a_core_is_audited_as_its_node<S: Service>()
         is_at_rest (replay (core_steps S.meaning) core events) ≡ is_at_rest (replay (node_step S.meaning) n events) }
     ensures sent { (core n : Node S) (events : List TrailEvent) → Stands core n →
         sent_from (core_steps S.meaning) core events ≡ sent_from (node_step S.meaning) n events }
+{}
+
+/// After the last event of its trail a member's node is at rest if and only if its core seems so: no batch
+/// waits, all entries are firm, and no message leaves. What a node holds waits for entries that its book
+/// has, so none is held then.
+pub fn rest_is_seen<S: Service>()
+    ensures { (t : Recorded) →
+        seems_at_rest (replay (core_steps S.meaning) (first_node S.meaning t) t.events) ≡ is_at_rest (replay (node_step S.meaning) (first_node S.meaning t) t.events) }
 {}

@@ -31,6 +31,15 @@ const HEADER_TOLD: &[u8] = b"group 1 0 count 1024\n";
 /// What the line after the header tells: before it, that the header is whole.
 const ASKED_TOLD: &[u8] = b"group 1 0 count 1024\nsent 1 c1 ask 1 1 0\n";
 
+/// The trail of a client to which nothing came: its opening and its end.
+const TRAIL: &[u8] = b"\0\0\0\x2e\
+\0\0\0\0\0\x04\0\
+\0\0\0\0\0\0\0\0\0\0\0\x01\0\0\x01\0\x01\
+\0\0\0\0\x05world\0\0\0\0\0\0\0\0\0\0\0\0\
+\0\0\0\x01\x08";
+
+const COHERENT: &[u8] = b"coherent\n";
+
 fn copied<T: Copy>(rt: &impl Abort, alloc: Global, items: &[T]) -> Vec<T> {
     Vec::from_slice(alloc, items).expect(rt, "there is memory")
 }
@@ -74,7 +83,7 @@ fn played<R: Abort + Threads + Wait + Sync>(
 
 #[test]
 fn a_fault_has_its_cause(rt: HostRuntime) {
-    // Each line is written and then flushed: the third call is the second write.
+    // Each line is written and then flushed: the third call is the second write. An audit has one line.
     for (command, reads, writes, status, told, said) in [
         ("world", 0, 0, Status::Ok, LONE_TOLD, ""),
         (
@@ -102,8 +111,28 @@ fn a_fault_has_its_cause(rt: HostRuntime) {
             ASKED_TOLD,
             "smart: write fault\n",
         ),
+        ("audit", 0, 0, Status::Ok, COHERENT, ""),
+        ("audit", 1, 0, Status::ReadFault, b"", "smart: read fault\n"),
+        ("audit", 2, 0, Status::ReadFault, b"", "smart: read fault\n"),
+        (
+            "audit",
+            0,
+            1,
+            Status::WriteFault,
+            b"",
+            "smart: write fault\n",
+        ),
+        (
+            "audit",
+            0,
+            2,
+            Status::WriteFault,
+            COHERENT,
+            "smart: write fault\n",
+        ),
     ] {
-        let script = copied(&rt, rt.alloc(), LONE);
+        let input = if command == "audit" { TRAIL } else { LONE };
+        let script = copied(&rt, rt.alloc(), input);
         let ended = played(&rt, rt.alloc(), command, script, &[reads], &[writes]);
         assert_eq!(rt; ended.0, status);
         assert_eq!(rt; ended.1.as_slice(), told);

@@ -56,6 +56,7 @@ are_read bytes r count stop trails read lacks parts trails_are none lacks_is rea
     record {
       count = count;
       some = whole.some;
+      few = parts.few;
       last = parts.last.cut;
       reached = reached_as bytes count parts.last (record { trails = read; begun = None }) parts.reached (parts.same ∙ as_read);
       all = done;
@@ -72,7 +73,7 @@ last_damage r last trails damage same trails_are told =
 pub damaged_at : (bytes : List ℕ) (r : Reading) (count : ℕ) (stop : Stop) (trails : List Recorded) (damage : Option ℕ) (part : ℕ)
     → IsRead bytes (record { reading = r; count = count; stop = stop }) → trails ≡ all_begun r → damage ≡ damaged_part 0 trails → damage ≡ Some part → StopsAt bytes part
 damaged_at bytes r count stop trails damage part parts trails_are told some =
-    record { count = count; last = parts.last; reached = parts.reached; cause = inl (last_damage r parts.last trails damage parts.same trails_are told ∙ some) }
+    record { count = count; few = parts.few; last = parts.last; reached = parts.reached; cause = inl (last_damage r parts.last trails damage parts.same trails_are told ∙ some) }
 
 left_of : Option Reached → List ℕ
 left_of None = []
@@ -100,6 +101,7 @@ fault_of bytes r count stop trails damage lacks (Form part) parts trails_are tol
     let begun : lacks ≡ is_some parts.last.reading.begun = lacks_is ∙ ap (λ (s : Reading). is_some s.begun) (sym parts.same) in
     record {
       count = count;
+      few = parts.few;
       last = parts.last;
       reached = parts.reached;
       cause = inr (last_damage r parts.last trails damage parts.same trails_are told ∙ none, (why.0, refuses_of count stop parts.last lacks parts.stop begun why.1));

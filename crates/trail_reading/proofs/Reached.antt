@@ -39,23 +39,23 @@ pub refused : (bytes : List ℕ) (n : ℕ) (taken is : Bool) (x y : Reached) →
     → IsRead bytes (record { reading = y.reading; count = n; stop = Unreadable })
 refused bytes n true is x y so_far next not_taken few told going = absurd (cc)
 refused bytes n false is x y so_far next not_taken few told going =
-    record { last = x; reached = so_far; same = sym next.1; stop = (few, (some_left x.cut.left is told going, next.0)) }
+    record { few = omega (arith, few); last = x; reached = so_far; same = sym next.1; stop = (few, (some_left x.cut.left is told going, next.0)) }
 
 -- nothing is left
-pub done : (bytes : List ℕ) (n : ℕ) (x : Reached) (is : Bool) → parts_read bytes n ≡ Some x → is ≡ (length x.cut.left == 0) → is ≡ true
+pub done : (bytes : List ℕ) (n : ℕ) (x : Reached) (is : Bool) → parts_read bytes n ≡ Some x → n < PARTS → is ≡ (length x.cut.left == 0) → is ≡ true
     → IsRead bytes (record { reading = x.reading; count = n; stop = Done })
-done bytes n x is so_far told ended = record { last = x; reached = so_far; same = refl; stop = none_left x.cut.left is told ended }
+done bytes n x is so_far few told ended = record { few = omega (arith, few); last = x; reached = so_far; same = refl; stop = none_left x.cut.left is told ended }
 
 -- nothing is left after the last part that there may be
 pub done_last : (bytes : List ℕ) (n : ℕ) (x : Reached) (is : Bool) (stop : Stop) → parts_read bytes n ≡ Some x → n ≡ PARTS → is ≡ (length x.cut.left == 0) → is ≡ true → stop ≡ Done
     → IsRead bytes (record { reading = x.reading; count = PARTS; stop = stop })
 done_last bytes n x is stop so_far last told ended stop_is =
     subst (λ (s : Stop). IsRead bytes (record { reading = x.reading; count = PARTS; stop = s })) (sym stop_is)
-    (record { last = x; reached = ap (λ k. parts_read bytes k) (sym last) ∙ so_far; same = refl; stop = none_left x.cut.left is told ended })
+    (record { few = omega arith; last = x; reached = ap (λ k. parts_read bytes k) (sym last) ∙ so_far; same = refl; stop = none_left x.cut.left is told ended })
 
 -- too much is left
 pub limited : (bytes : List ℕ) (n : ℕ) (x : Reached) (is : Bool) (stop : Stop) → parts_read bytes n ≡ Some x → n ≡ PARTS → is ≡ (length x.cut.left == 0) → is ≡ false → stop ≡ Limit
     → IsRead bytes (record { reading = x.reading; count = PARTS; stop = stop })
 limited bytes n x is stop so_far last told going stop_is =
     subst (λ (s : Stop). IsRead bytes (record { reading = x.reading; count = PARTS; stop = s })) (sym stop_is)
-    (record { last = x; reached = ap (λ k. parts_read bytes k) (sym last) ∙ so_far; same = refl; stop = (some_left x.cut.left is told going, refl) })
+    (record { few = omega arith; last = x; reached = ap (λ k. parts_read bytes k) (sym last) ∙ so_far; same = refl; stop = (some_left x.cut.left is told going, refl) })

@@ -1,5 +1,5 @@
 -- What a call has taken of trails.
-use Rattle.std.specs.Prelude.{◌≡◌, ℕ, Bool, true, false, Option, Some, None, List, length, ◌<◌}
+use Rattle.std.specs.Prelude.{◌≡◌, ℕ, Bool, true, false, Option, Some, None, List, length, ◌<◌, ◌≤◌}
 use Rattle.smart_base.specs.Cuts.{Cut}
 use Rattle.audit_rules.specs.declared.recorded.TheConstants.{PARTS}
 use Rattle.audit_rules.specs.declared.recorded.Reading.{Reading}
@@ -24,8 +24,9 @@ IsStop Done count x = length x.cut.left ≡ 0
 IsStop Unreadable count x = Refuses count x
 IsStop Limit count x = (0 < length x.cut.left) × (count ≡ PARTS)
 
--- the parts of bytes that could be read, and why no more were
+-- the parts of bytes that could be read, 2^24 at most, and why no more were
 pub record IsRead (bytes : List ℕ) (read : PartsRead) : Type 0 where
+  pub few : read.count ≤ PARTS
   pub last : Reached
   pub reached : parts_read bytes read.count ≡ Some last
   pub same : last.reading ≡ read.reading
