@@ -1,13 +1,68 @@
--- A node that did not begin for want of memory.
-use Rattle.std.proofs.Common.{◌≡◌, inl, refl, List}
+-- How a run of `node` ends.
+use Rattle.std.proofs.Common.{◌≡◌, ◌∙◌, ap, inl, refl, sym, List, Option, Some}
 use Rattle.app_kv.specs.declared.store.Entry.{Entry}
 use Rattle.disk_model.specs.Cells.{Cells}
 use Rattle.disk_model.specs.Rooms.{Address}
+use Rattle.command_words.specs.declared.command.Command.{Command}
+use Rattle.command_words.specs.declared.command.Command.TheVariants as commands
+use Rattle.command_words.specs.declared.node_words.NodeWords.{NodeWords}
+use Rattle.script_play.specs.declared.status.Status.{Status}
 use Rattle.script_play.specs.declared.status.Status.TheVariants as ends
 use Rattle.node_run.specs.Members.{Run}
+use Rattle.node_run.specs.declared.status.NodeStatus.{NodeStatus}
 use Rattle.node_run.specs.declared.status.NodeStatus.TheVariants as nodes
-use Rattle.smart_top.specs.Nodes.{NodeEnd}
+use Rattle.smart_top.specs.Nodes.{NodeEnd, status_by}
 
+-- it had no memory before it read anything
 pub unread_node : {D : Type 0} (r : Run (List Entry)) (cells : D → Cells) (room : Address → Cells) → r.left_after ≡ r.left_before → r.written_after ≡ r.written_before → NodeEnd r cells room ends.NoMemory
 unread_node r cells room unread unwritten =
     record { node = nodes.NoMemory; is = refl; ended = inl (record { why = tt; unread = unread; unwritten = unwritten }) }
+
+-- words name one node
+pub same_node : (command : Option Command) (words other : NodeWords) → command ≡ Some (commands.Node words) → command ≡ Some (commands.Node other) → other ≡ words
+same_node command words other is also = cc
+
+-- ---- the status of a node, by that of the program
+
+node_of : Status → NodeStatus
+node_of (ends.Script line kind) = nodes.Form line
+node_of (ends.Store entry) = nodes.Store entry
+node_of ends.ReadFault = nodes.ReadFault
+node_of ends.WriteFault = nodes.WriteFault
+node_of ends.TrailFault = nodes.TrailFault
+node_of ends.DiskFault = nodes.DiskFault
+node_of ends.NoMemory = nodes.NoMemory
+node_of _ = nodes.Ok
+
+node-again : (node : NodeStatus) → node_of (status_by node) ≡ node
+node-again nodes.Ok = refl
+node-again (nodes.Form frame) = refl
+node-again (nodes.Store entry) = refl
+node-again nodes.ReadFault = refl
+node-again nodes.WriteFault = refl
+node-again nodes.TrailFault = refl
+node-again nodes.DiskFault = refl
+node-again nodes.NoMemory = refl
+
+-- a status of the program is that of one end of a node
+pub node_ended : (node : NodeStatus) (status : Status) → status_by node ≡ status → node ≡ node_of status
+node_ended node status is = sym (node-again node) ∙ ap node_of is
+
+-- a node never finds that words are no command
+pub never_words : (node : NodeStatus) → status_by node ≡ ends.Words → ⊥
+never_words node is = let ok : status_by node ≡ ends.Ok = ap status_by (node_ended node ends.Words is) in absurd (ok_words (sym ok ∙ is))
+  where
+    ok_words : ends.Ok ≡ ends.Words → ⊥
+    ok_words same = absurd (cc)
+
+pub read_failed : (node : NodeStatus) → status_by node ≡ ends.ReadFault → node ≡ nodes.ReadFault
+read_failed node is = node_ended node ends.ReadFault is
+
+pub write_failed : (node : NodeStatus) → status_by node ≡ ends.WriteFault → node ≡ nodes.WriteFault
+write_failed node is = node_ended node ends.WriteFault is
+
+pub trail_failed : (node : NodeStatus) → status_by node ≡ ends.TrailFault → node ≡ nodes.TrailFault
+trail_failed node is = node_ended node ends.TrailFault is
+
+pub disk_failed : (node : NodeStatus) → status_by node ≡ ends.DiskFault → node ≡ nodes.DiskFault
+disk_failed node is = node_ended node ends.DiskFault is

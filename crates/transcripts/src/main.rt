@@ -10,8 +10,11 @@ use disk_model::room::MemRoom;
 use node_rooms::memory::MemTrails;
 use smart_io::memory::{MemSink, MemSource};
 use smart_top::top::run;
+use std::alloc::Global;
 use std::io::Write;
 use std::process::ExitCode;
+use std::sync::Wait;
+use std::thread::Threads;
 use std::{fs, io};
 
 /// What a run wrote, and how it ended: its exit status and the line that it said on standard error.
@@ -73,8 +76,8 @@ fn wanted_ending(rt: &HostRuntime, name: &str) -> io::Result<Ending> {
 }
 
 /// The status of a run as a case's file tells it: the number, and what was said.
-fn status_line(rt: &HostRuntime, code: u8, said: &[u8]) -> io::Result<Vec<u8>> {
-    let mut line = Vec::new(rt.alloc());
+fn status_line(alloc: Global, code: u8, said: &[u8]) -> io::Result<Vec<u8>> {
+    let mut line = Vec::new(alloc);
     write!(&mut line, "{code}")?;
     if said.is_empty() {
         line.push(b'\n')?;
@@ -85,9 +88,13 @@ fn status_line(rt: &HostRuntime, code: u8, said: &[u8]) -> io::Result<Vec<u8>> {
     Ok(line)
 }
 
-/// Runs words over a script.
-fn play(rt: &HostRuntime, words: &[String], script: Vec<u8>) -> io::Result<Ending> {
-    let alloc = rt.alloc();
+/// Runs the words of a case over its script.
+fn play<R: Threads + Wait + Sync>(
+    rt: &R,
+    alloc: Global,
+    words: &[String],
+    script: Vec<u8>,
+) -> io::Result<Ending> {
     let mut input = MemSource::new(script, Vec::new(alloc));
     let mut output = MemSink::new(Vec::new(alloc), Vec::new(alloc));
     let mut errors = MemSink::new(Vec::new(alloc), Vec::new(alloc));
@@ -103,7 +110,7 @@ fn play(rt: &HostRuntime, words: &[String], script: Vec<u8>) -> io::Result<Endin
         &mut MemTrails::new(alloc, 0, 0),
         &OpenGate,
     );
-    let status = status_line(rt, status.code(), errors.bytes.as_slice())?;
+    let status = status_line(alloc, status.code(), errors.bytes.as_slice())?;
     Ok(Ending {
         written: output.bytes,
         status,
@@ -149,18 +156,15 @@ fn say(rt: &HostRuntime, name: &str, played: &Ending, wanted: &Ending) -> io::Re
     Ok(is_wanted)
 }
 
-/// Plays a case and says how it ended. Answers whether it ended as its files tell.
-fn try_case(rt: &HostRuntime, name: &str) -> io::Result<bool> {
-    let wanted = wanted_ending(rt, name)?;
-    let words = words_of(rt, name)?;
-    let played = play(rt, words.as_slice(), script_of(rt, name)?)?;
-    say(rt, name, &played, &wanted)
-}
-
 fn main(rt: HostRuntime) -> io::Result<ExitCode> {
     let mut status = ExitCode::SUCCESS;
     for name in case_names(&rt)?.iter() {
-        if !try_case(&rt, name.as_str())? {
+        let name = name.as_str();
+        let wanted = wanted_ending(&rt, name)?;
+        let words = words_of(&rt, name)?;
+        let script = script_of(&rt, name)?;
+        let played = play(&rt, rt.alloc(), words.as_slice(), script)?;
+        if !say(&rt, name, &played, &wanted)? {
             status = ExitCode::FAILURE;
         }
     }
