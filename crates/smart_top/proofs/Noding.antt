@@ -24,7 +24,7 @@ same_node command words other is also = cc
 
 -- ---- the status of a node, by that of the program
 
-node_of : Status → NodeStatus
+abbrev node_of : Status → NodeStatus
 node_of (ends.Script line kind) = nodes.Form line
 node_of (ends.Store entry) = nodes.Store entry
 node_of ends.ReadFault = nodes.ReadFault
