@@ -10,3 +10,4 @@ pub mod LoadHeader
 pub mod LoadMeanings
 pub mod Loading
 pub mod Noding
+pub mod WholeFrames

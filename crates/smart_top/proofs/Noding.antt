@@ -1,5 +1,10 @@
 -- How a run of `node` ends.
-use Rattle.std.proofs.Common.{◌≡◌, ◌∙◌, ap, inl, refl, sym, List, Option, Some}
+use Rattle.std.proofs.Common.{◌≡◌, ◌∙◌, ◌⊎◌, ap, inl, inr, refl, subst, sym, ℕ, List, Option, Some, None}
+use Rattle.std.specs.List.{flat_map}
+use Rattle.frame_stream.specs.Frames.{framed}
+use Rattle.store_laws.specs.Restored.{restores}
+use Rattle.store_laws.specs.declared.job.Kept.{Kept}
+use Rattle.member_opening.specs.Restorings.{parts_in, store_fault}
 use Rattle.app_kv.specs.declared.store.Entry.{Entry}
 use Rattle.disk_model.specs.Cells.{Cells}
 use Rattle.disk_model.specs.Rooms.{Address}
@@ -8,10 +13,11 @@ use Rattle.command_words.specs.declared.command.Command.TheVariants as commands
 use Rattle.command_words.specs.declared.node_words.NodeWords.{NodeWords}
 use Rattle.script_play.specs.declared.status.Status.{Status}
 use Rattle.script_play.specs.declared.status.Status.TheVariants as ends
-use Rattle.node_run.specs.Members.{Run}
+use Rattle.node_run.specs.Members.{Run, RunEnd}
 use Rattle.node_run.specs.declared.status.NodeStatus.{NodeStatus}
 use Rattle.node_run.specs.declared.status.NodeStatus.TheVariants as nodes
-use Rattle.smart_top.specs.Nodes.{NodeEnd, status_by}
+use Rattle.smart_top.specs.Nodes.{IsFrames, NodeEnd, status_by}
+use Rattle.smart_top.proofs.WholeFrames.{consumes_read, never_cut}
 
 -- it had no memory before it read anything
 pub unread_node : {D : Type 0} (r : Run (List Entry)) (cells : D → Cells) (room : Address → Cells) → r.left_after ≡ r.left_before → r.written_after ≡ r.written_before → NodeEnd r cells room ends.NoMemory
@@ -66,3 +72,32 @@ trail_failed node is = node_ended node ends.TrailFault is
 
 pub disk_failed : (node : NodeStatus) → status_by node ≡ ends.DiskFault → node ≡ nodes.DiskFault
 disk_failed node is = node_ended node ends.DiskFault is
+
+-- ---- completeness
+
+none-some : (fault : Option ℕ) (entry : ℕ) → fault ≡ None → fault ≡ Some entry → ⊥
+none-some fault entry none is = absurd (cc)
+
+module _ {D : Type 0} (r : Run (List Entry)) (cells : D → Cells) (room : Address → Cells) (input : IsFrames r.left_before) (told : r.told) (sound : store_fault r.meaning r.settings (parts_in (restores r.images)) ≡ None)
+    (status : Status) (read : status ≡ ends.ReadFault → ⊥) (write : status ≡ ends.WriteFault → ⊥) (trail : status ≡ ends.TrailFault → ⊥) (disk : status ≡ ends.DiskFault → ⊥) where
+  complete-by : (node : NodeStatus) → status ≡ status_by node → RunEnd r cells room node → (status ≡ ends.Ok) ⊎ (status ≡ ends.NoMemory)
+  complete-by nodes.Ok is e = inl is
+  complete-by (nodes.Form frame) is (inl e) = absurd e.why
+  complete-by (nodes.Form frame) is (inr e) =
+      let l = e.lived.over.life.lived in
+      let off = e.lived.over.life.ends in
+      absurd (never_cut input.frames r.left_after l.read l.frames l.rest input.short
+      (consumes_read r.left_before r.left_after (flat_map framed input.frames) l.read l.lost input.is off.none_lost l.consumed) l.cut off.cut_off)
+  complete-by (nodes.Store entry) is (inl e) =
+      absurd (none-some (store_fault r.meaning r.settings (parts_in (restores r.images))) entry sound
+      (subst (λ (kept : Kept). store_fault r.meaning r.settings (parts_in kept) ≡ Some entry) (e.why.restored told) e.why.fault))
+  complete-by (nodes.Store entry) is (inr e) = absurd e.lived.over.life.ends
+  complete-by nodes.ReadFault is e = absurd (read is)
+  complete-by nodes.WriteFault is e = absurd (write is)
+  complete-by nodes.TrailFault is e = absurd (trail is)
+  complete-by nodes.DiskFault is e = absurd (disk is)
+  complete-by nodes.NoMemory is e = inr is
+
+  -- a node whose input is whole frames, over devices that hold nothing without meaning, ends well if nothing fails, or for want of memory
+  pub node_is_complete : NodeEnd r cells room status → (status ≡ ends.Ok) ⊎ (status ≡ ends.NoMemory)
+  node_is_complete e = complete-by e.node e.is e.ended

@@ -1,8 +1,13 @@
 -- What a run of `node` has read, written and kept, by its status.
-use Rattle.std.specs.Prelude.{◌≡◌, List}
+use Rattle.std.specs.Prelude.{◌≡◌, ℕ, List, Option, Some, None}
+use Rattle.std.specs.List.{flat_map}
+use Rattle.smart_base.specs.Lists.{Each}
 use Rattle.smart_base.specs.Views.{View}
 use Rattle.disk_model.specs.Cells.{Cells}
 use Rattle.disk_model.specs.Rooms.{Address}
+use Rattle.frame_stream.specs.Frames.{framed, IsShort}
+use Rattle.store_laws.specs.Restored.{Images, restores}
+use Rattle.app_kv.specs.Snapshots.{keeping}
 use Rattle.app_kv.specs.declared.store.Entry.{Entry}
 use Rattle.world_rules.specs.Scripts.{members_from}
 use Rattle.world_rules.specs.declared.line.Kind.TheVariants.{Form}
@@ -11,6 +16,7 @@ use Rattle.script_play.specs.declared.status.Status.TheVariants as ends
 use Rattle.command_words.specs.declared.node_words.GroupSize.{GroupSize}
 use Rattle.command_words.specs.declared.node_words.NodeWords.{NodeWords}
 use Rattle.trail.specs.declared.opening.App.TheVariants as apps
+use Rattle.member_opening.specs.Restorings.{parts_in, store_fault}
 use Rattle.member_opening.specs.declared.settings.Settings.{Settings}
 use Rattle.node_run.specs.Members.{Run, RunEnd}
 use Rattle.node_run.specs.declared.status.NodeStatus.{NodeStatus}
@@ -34,6 +40,16 @@ status_by nodes.WriteFault = ends.WriteFault
 status_by nodes.TrailFault = ends.TrailFault
 status_by nodes.DiskFault = ends.DiskFault
 status_by nodes.NoMemory = ends.NoMemory
+
+-- an input that tells what it holds: whole frames within the limit
+pub record IsFrames (left : Option (List ℕ)) : Type 0 where
+  pub frames : List (List ℕ)
+  pub is : left ≡ Some (flat_map framed frames)
+  pub short : Each IsShort frames
+
+-- devices that hold nothing without meaning to the node that words name
+abbrev pub HaveMeaning : NodeWords → Images → Type 0
+HaveMeaning w images = store_fault keeping (settings_of w) (parts_in (restores images)) ≡ None
 
 -- How a run of `node` ended.
 pub record NodeEnd {D : Type 0} (r : Run (List Entry)) (cells : D → Cells) (room : Address → Cells) (status : Status) : Type 0 where

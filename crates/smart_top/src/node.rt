@@ -1,11 +1,11 @@
 //! The command `node`: what its words name, and the status of its run.
-ghost use Rattle.std.specs.Prelude.{◌≡◌, ◌≤◌, IfOk};
+ghost use Rattle.std.specs.Prelude.{◌≡◌, ◌≤◌, ◌⊎◌, IfOk};
 ghost use Rattle.faults.specs.Counts.{Rose};
 ghost use Rattle.app_kv.specs.Snapshots.{keeping};
 ghost use Rattle.world_rules.specs.Scripts.{members_from};
 ghost use Rattle.command_words.specs.Ranges.{FitsGroup, FitsNode};
 ghost use Rattle.member_opening.specs.Devices.{images_at};
-ghost use Rattle.smart_top.specs.Nodes.{NodeEnd, first_view, settings_of, status_by};
+ghost use Rattle.smart_top.specs.Nodes.{HaveMeaning, IsFrames, NodeEnd, first_view, settings_of, status_by};
 
 use app_kv::KeyValueStore;
 use clock_gate::clock::Clock;
@@ -122,6 +122,7 @@ where
     ensures trail { result ≡ Status.TrailFault → Rose (T.faults trails.old) (T.faults trails.new) }
     ensures disk { result ≡ Status.DiskFault → Rose (M.faults room.old) (M.faults room.new) }
     ensures words { result ≡ Status.Words → ⊥ }
+    ensures complete { IsFrames (I.left input.old) → M.Disk.told → HaveMeaning words (images_at (M.cells room.old) words.dir words.id) → (Rose (I.faults input.old) (I.faults input.new) → ⊥) → (Rose (O.faults output.old) (O.faults output.new) → ⊥) → (Rose (T.faults trails.old) (T.faults trails.new) → ⊥) → (Rose (M.faults room.old) (M.faults room.new) → ⊥) → (result ≡ Status.Ok) ⊎ (result ≡ Status.NoMemory) }
 {
     match settings_of(alloc, words) {
         Ok(settings) => {

@@ -7,7 +7,7 @@ ghost use Rattle.script_play.specs.Readings.{script_lines, whole_lines};
 ghost use Rattle.smart_top.specs.Feeds.{HasTaken, GoesOn, GoesOnBehind, halt_end};
 ghost use Rattle.smart_top.specs.Runs.{IsLeft, RunEnd};
 ghost use Rattle.smart_top.specs.Loads.{load_read, LoadEnd};
-ghost use Rattle.smart_top.specs.Nodes.{NodeEnd, settings_of};
+ghost use Rattle.smart_top.specs.Nodes.{HaveMeaning, IsFrames, NodeEnd, settings_of};
 ghost use Rattle.app_kv.specs.Snapshots.{keeping};
 ghost use Rattle.member_opening.specs.Devices.{images_at};
 ghost use Rattle.smart_top.specs.Audits.{AuditEnd};
@@ -183,6 +183,7 @@ where
     ensures load { (n : ℕ) → command_of (map string_bytes words.now) ≡ Some (Command.Load n) → (input.new ≡ input.old) × LoadEnd n (O.written output.old) (O.written output.new) (O.wants output.old) (O.wants output.new) result }
     ensures complete { (n : ℕ) → command_of (map string_bytes words.now) ≡ Some (Command.Load n) → (load_read node_courses n).refused ≡ None → (Rose (O.faults output.old) (O.faults output.new) → ⊥) → (result ≡ Status.Ok) ⊎ (result ≡ Status.NoMemory) }
     ensures node { (n : NodeWords) → command_of (map string_bytes words.now) ≡ Some (Command.Node n) → NodeEnd (record { meaning = keeping; settings = settings_of n; told = M.Disk.told; images = images_at (M.cells room.old) n.dir n.id; left_before = I.left input.old; left_after = I.left input.new; written_before = O.written output.old; written_after = O.written output.new; trails_after = T.kept trails.new }) M.Disk.cells (M.cells room.new) result }
+    ensures complete_node { (n : NodeWords) → command_of (map string_bytes words.now) ≡ Some (Command.Node n) → IsFrames (I.left input.old) → M.Disk.told → HaveMeaning n (images_at (M.cells room.old) n.dir n.id) → (Rose (I.faults input.old) (I.faults input.new) → ⊥) → (Rose (O.faults output.old) (O.faults output.new) → ⊥) → (Rose (T.faults trails.old) (T.faults trails.new) → ⊥) → (Rose (M.faults room.old) (M.faults room.new) → ⊥) → (result ≡ Status.Ok) ⊎ (result ≡ Status.NoMemory) }
     ensures apart { ((n : NodeWords) → command_of (map string_bytes words.now) ≡ Some (Command.Node n) → ⊥) → (room.new ≡ room.old) × ((clock.new ≡ clock.old) × (trails.new ≡ trails.old)) }
     ensures audit { command_of (map string_bytes words.now) ≡ Some Command.Audit → AuditEnd (I.left input.old) (I.left input.new) (O.written output.old) (O.written output.new) (O.wants output.old) (O.wants output.new) result }
     ensures read { result ≡ Status.ReadFault → Rose (I.faults input.old) (I.faults input.new) }
@@ -269,6 +270,8 @@ where
     ensures complete { (n : ℕ) → command_of (map string_bytes words.now) ≡ Some (Command.Load n) → (load_read node_courses n).refused ≡ None → (Rose (O.faults output.old) (O.faults output.new) → ⊥) → (result ≡ Status.Ok) ⊎ (result ≡ Status.NoMemory) }
     // What `node` has read, written and kept, by the status.
     ensures node { (n : NodeWords) → command_of (map string_bytes words.now) ≡ Some (Command.Node n) → NodeEnd (record { meaning = keeping; settings = settings_of n; told = M.Disk.told; images = images_at (M.cells room.old) n.dir n.id; left_before = I.left input.old; left_after = I.left input.new; written_before = O.written output.old; written_after = O.written output.new; trails_after = T.kept trails.new }) M.Disk.cells (M.cells room.new) result }
+    // `node` is complete: if source and disks tell what they hold, the input is whole frames, the devices hold nothing without meaning, and nothing fails, it ends well, or for want of memory.
+    ensures complete_node { (n : NodeWords) → command_of (map string_bytes words.now) ≡ Some (Command.Node n) → IsFrames (I.left input.old) → M.Disk.told → HaveMeaning n (images_at (M.cells room.old) n.dir n.id) → (Rose (I.faults input.old) (I.faults input.new) → ⊥) → (Rose (O.faults output.old) (O.faults output.new) → ⊥) → (Rose (T.faults trails.old) (T.faults trails.new) → ⊥) → (Rose (M.faults room.old) (M.faults room.new) → ⊥) → (result ≡ Status.Ok) ⊎ (result ≡ Status.NoMemory) }
     // No other command touches the rooms or the clock.
     ensures apart { ((n : NodeWords) → command_of (map string_bytes words.now) ≡ Some (Command.Node n) → ⊥) → (room.new ≡ room.old) × ((clock.new ≡ clock.old) × (trails.new ≡ trails.old)) }
     // What `audit` has read and written, by the status: the line that tells what it finds in the trails of its whole input.

@@ -1,5 +1,5 @@
 use Rattle.std.proofs.Common.{refl, sym, ◌∙◌}
-use Rattle.smart_top.proofs.Noding.{unread_node, never_words, read_failed, write_failed, trail_failed, disk_failed}
+use Rattle.smart_top.proofs.Noding.{node_is_complete, unread_node, never_words, read_failed, write_failed, trail_failed, disk_failed}
 use Rattle.smart_top.proofs.node.node.Goals as goal
 
 pub returns-in-Ok-clause-ended : goal.returns-in-Ok-clause-ended
@@ -23,3 +23,9 @@ returns-in-Ok-clause-words g c = λ is. never_words _ (sym c.status_by.ensures �
 
 pub returns-in-Err-clause-ended : goal.returns-in-Err-clause-ended
 returns-in-Err-clause-ended g c = unread_node _ _ _ refl refl
+
+pub returns-in-Ok-clause-complete : goal.returns-in-Ok-clause-complete
+returns-in-Ok-clause-complete g c = λ input told sound read write trail disk. node_is_complete _ _ _ input told sound _ (λ is. read (c.run_member-status.ensures.read (read_failed _ (sym c.status_by.ensures ∙ is))))
+    (λ is. write (c.run_member-status.ensures.write (write_failed _ (sym c.status_by.ensures ∙ is)))) (λ is. trail (c.run_member-status.ensures.trail (trail_failed _ (sym c.status_by.ensures ∙ is))))
+    (λ is. disk (c.run_member-status.ensures.disk (disk_failed _ (sym c.status_by.ensures ∙ is))))
+    (record { node = c.run_member-status.result; is = c.status_by.ensures; ended = rw c.in-Ok.ensures at c.run_member-status.ensures.ended })
