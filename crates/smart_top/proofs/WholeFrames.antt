@@ -32,10 +32,10 @@ begins-long rest is =
     (at_least (length rest) 4 tests.0, above (length_at rest) MESSAGE_BYTES tests.1)
   where
     at_least : (n m : ℕ) → nat_lt n m ≡ false → m ≤ n
-    at_least n m no = grind (arith, nat_tests)
+    at_least n m other = grind (arith, nat_tests)
 
     above : (n m : ℕ) → nat_le n m ≡ false → m < n
-    above n m no = grind (arith, nat_tests)
+    above n m other = grind (arith, nat_tests)
 
 -- Whole frames are not cut off: none of them is too long, and their end is no end within one.
 pub never_cut : (frames : List (List ℕ)) (left' : Option (List ℕ)) (read : List ℕ) (given : List (List ℕ)) (rest : List ℕ) → Each IsShort frames → Consumes (Some (flat_map framed frames)) left' read
