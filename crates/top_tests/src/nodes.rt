@@ -51,6 +51,7 @@ fn case<'a>(line: &'a str, bytes: &'a [u8]) -> Case<'a> {
 }
 
 /// What a run answers, writes and says.
+#[derive(Drop)]
 struct Ending {
     status: Status,
     written: Vec<u8>,
