@@ -51,6 +51,7 @@ fn case<'a>(line: &'a str, bytes: &'a [u8]) -> Case<'a> {
 }
 
 /// What a run answers, writes and says.
+#[derive(Drop)]
 struct Ending {
     status: Status,
     written: Vec<u8>,
@@ -277,7 +278,7 @@ fn a_store_of_another_node_is_told(rt: HostRuntime) {
         let ended = ran(&rt, alloc, case(words, b""), &mut room, &mut trails);
         assert_eq!(rt; ended.status, Status::Store { entry: 1 });
         assert_eq!(rt; ended.status.code(), 3);
-        assert_eq!(rt; ended.said.as_slice(), b"smart: line 1: Store\n");
+        assert_eq!(rt; ended.said.as_slice(), b"smart: line 1: Store\n".as_slice());
     }
     let again = ran(&rt, alloc, case(LONE, b""), &mut room, &mut trails);
     assert_eq!(rt; again.status, Status::Ok);
@@ -306,7 +307,7 @@ fn a_failure_around_a_node_is_told(rt: HostRuntime) {
         let ended = ran(&rt, alloc, case(LONE, b""), &mut room, &mut trails);
         assert_eq!(rt; ended.status, Status::TrailFault);
         assert_eq!(rt; ended.status.code(), 5);
-        assert_eq!(rt; ended.said.as_slice(), b"smart: write fault\n");
+        assert_eq!(rt; ended.said.as_slice(), b"smart: write fault\n".as_slice());
     }
 }
 
@@ -330,6 +331,6 @@ fn a_device_that_fails_is_told(rt: HostRuntime) {
         let ended = ran(&rt, alloc, case(LONE, b""), &mut room, &mut trails);
         assert_eq!(rt; ended.status, Status::DiskFault);
         assert_eq!(rt; ended.status.code(), 6);
-        assert_eq!(rt; ended.said.as_slice(), b"smart: disk fault\n");
+        assert_eq!(rt; ended.said.as_slice(), b"smart: disk fault\n".as_slice());
     }
 }
