@@ -42,6 +42,7 @@ struct Left<D: Disk> {
 }
 
 /// What a life needs besides its core and its store.
+#[derive(Drop)]
 struct Needs {
     head: TrailOpening,
     wires: Wires,
@@ -97,17 +98,15 @@ where
     ensures disk { result.status ≡ NodeStatus.DiskFault → DiskRose D.faults store.disks result.disks }
     ensures later { NoneFell D.faults store.disks result.disks }
 {
-    let Ok(Needs { head, wires }) = needs_of::<S>(alloc, settings, parts) else {
+    let Ok(needs) = needs_of::<S>(alloc, settings, parts) else {
         return Left {
             disks: store.into_disks(),
             status: NodeStatus::NoMemory,
         };
     };
-    match trails.get(alloc, settings.dir.as_slice(), settings.member) {
-        Err(fault) => Left {
-            disks: store.into_disks(),
-            status: trail_status(fault),
-        },
+    let Needs { head, wires } = needs;
+    let dir = settings.dir.as_slice();
+    match trails.get(alloc, dir, settings.member) {
         Ok(sink) => {
             let Remains {
                 store,
@@ -128,12 +127,16 @@ where
                 output,
                 gate,
             );
-            trails.keep(settings.dir.as_slice(), settings.member, sink);
+            trails.keep(dir, settings.member, sink);
             Left {
                 disks: store.into_disks(),
                 status,
             }
         }
+        Err(fault) => Left {
+            disks: store.into_disks(),
+            status: trail_status(fault),
+        },
     }
 }
 
@@ -214,9 +217,13 @@ where
     ensures later { NoneFell D.faults disks result.disks }
 {
     match reopen(alloc, disks) {
-        Ok((store, kept)) => over_store::<S, D, T, I, W, K, G, R>(
-            rt, alloc, settings, store, kept, input, output, clock, trails, gate,
-        ),
+        Ok((store, kept)) => {
+            // That there are fewer than 2^63 of them is known of the list.
+            let _restored = kept.entries.len();
+            over_store::<S, D, T, I, W, K, G, R>(
+                rt, alloc, settings, store, kept, input, output, clock, trails, gate,
+            )
+        }
         Err((fault, disks)) => Left {
             disks,
             status: store_status(fault),

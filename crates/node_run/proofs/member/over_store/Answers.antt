@@ -1,0 +1,65 @@
+use Rattle.std.proofs.Common.{◌≡◌, ◌∙◌, inl, inr, ℕ, length, Err, refl, sym, ap}
+use Rattle.node_rules.specs.declared.node.Parts.{Parts}
+use Rattle.member_opening.specs.declared.fault.RestoreFault.{RestoreFault}
+use Rattle.node_run.specs.Members.{Run}
+use Rattle.node_run.specs.declared.status.NodeStatus.TheVariants as ends
+use Rattle.node_run.proofs.Refused.{for-restored, none-fell, restore-else}
+use Rattle.node_run.proofs.Running.{is-refused, run-over}
+use Rattle.node_run.proofs.member.over_store.Goals as goal
+
+-- ---- a life over what was restored
+
+pub live-requires-clause-core : goal.live-requires-clause-core
+live-requires-clause-core g c =
+    (c.in-Ok.ensures.broken, rw (c.requires.restored, ← ap (λ (p : Parts). length p.entries) c.parts_in-parts.ensures) c.in-Ok.ensures.counts)
+
+pub returns-in-Ok-clause-ended : goal.returns-in-Ok-clause-ended
+returns-in-Ok-clause-ended g c = λ images restored.
+    let r : Run g.row.S.Denot =
+    record {
+      meaning = g.S.Service.meaning;
+      settings = c.args.settings.now;
+      told = g.D.Disk.told;
+      images = images;
+      left_before = g.I.Source.left c.args.input.now;
+      left_after = g.I.Source.left c.live.new.input;
+      written_before = g.W.Sink.written c.args.output.now;
+      written_after = g.W.Sink.written c.live.new.output;
+      trails_after = g.T.TrailRoom.kept c.live.new.trails;
+    } in
+    run-over r c.args.kept restored c.parts_in-parts.result c.parts_in-parts.ensures c.in-Ok.core.node c.live.result.disks c.live.result.status c.in-Ok.ensures.whole c.in-Ok.ensures.node (c.live.ensures.ended images)
+
+-- ---- an entry has no meaning, or there is no memory
+
+pub returns-in-Err-clause-ended : goal.returns-in-Err-clause-ended
+returns-in-Err-clause-ended g c = λ images restored.
+    let r : Run g.row.S.Denot =
+    record {
+      meaning = g.S.Service.meaning;
+      settings = c.args.settings.now;
+      told = g.D.Disk.told;
+      images = images;
+      left_before = g.I.Source.left c.args.input.now;
+      left_after = g.I.Source.left c.args.input.now;
+      written_before = g.W.Sink.written c.args.output.now;
+      written_after = g.W.Sink.written c.args.output.now;
+      trails_after = g.T.TrailRoom.kept c.args.trails.now;
+    } in
+    inl
+    (for-restored r c.restore_status.result refl refl c.in-Err.fault
+    (λ entry is. is-refused r c.args.kept restored c.parts_in-parts.result c.parts_in-parts.ensures entry (c.in-Err.ensures.cause entry (ap (λ (f : RestoreFault). Err f) is))) c.restore_status.ensures)
+
+pub returns-in-Err-clause-read : goal.returns-in-Err-clause-read
+returns-in-Err-clause-read g c e = absurd (restore-else c.in-Err.fault ends.ReadFault (λ n e. cc) (λ e. cc) (sym c.restore_status.ensures ∙ e))
+
+pub returns-in-Err-clause-write : goal.returns-in-Err-clause-write
+returns-in-Err-clause-write g c e = absurd (restore-else c.in-Err.fault ends.WriteFault (λ n e. cc) (λ e. cc) (sym c.restore_status.ensures ∙ e))
+
+pub returns-in-Err-clause-trail : goal.returns-in-Err-clause-trail
+returns-in-Err-clause-trail g c e = absurd (restore-else c.in-Err.fault ends.TrailFault (λ n e. cc) (λ e. cc) (sym c.restore_status.ensures ∙ e))
+
+pub returns-in-Err-clause-disk : goal.returns-in-Err-clause-disk
+returns-in-Err-clause-disk g c e = absurd (restore-else c.in-Err.fault ends.DiskFault (λ n e. cc) (λ e. cc) (sym c.restore_status.ensures ∙ e))
+
+pub returns-in-Err-clause-later : goal.returns-in-Err-clause-later
+returns-in-Err-clause-later g c = none-fell g.D.Disk.faults c.args.store.disks c.into_disks.result c.into_disks.ensures
