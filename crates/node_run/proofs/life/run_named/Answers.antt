@@ -91,8 +91,8 @@ returns-in-Ok-clause-later g c = rw c.new-worker.ensures.disks at c.run_seated.e
 
 -- ---- no memory for the seat
 
-pub returns-in-Err-2-clause-ended : goal.returns-in-Err-2-clause-ended
-returns-in-Err-2-clause-ended g c =
+pub returns-in-Err-seated-clause-ended : goal.returns-in-Err-seated-clause-ended
+returns-in-Err-seated-clause-ended g c =
     let life : Life g.row.S.Denot =
     record {
       meaning = g.S.Service.meaning;
@@ -104,10 +104,10 @@ returns-in-Err-2-clause-ended g c =
       written_before = g.W.Sink.written c.args.output.now;
       written_after = g.W.Sink.written c.args.output.now;
       told_before = g.O.Sink.written c.args.sink;
-      told_after = g.O.Sink.written c.in-Err-2.sink;
+      told_after = g.O.Sink.written c.in-Err-seated.sink;
       firm = c.args.store.plan.firm;
     } in
-    seatless life refl refl (omega (arith, c.requires.core.1.firm, c.requires.opened.firm)) (rw (← c.in-Err-2.ensures.back) at c.in_default.ensures.ok)
+    seatless life refl refl (omega (arith, c.requires.core.1.firm, c.requires.opened.firm)) (rw (← c.in-Err-seated.ensures.back) at c.in_default.ensures.ok)
 
-pub returns-in-Err-2-clause-later : goal.returns-in-Err-2-clause-later
-returns-in-Err-2-clause-later g c = none-fell g.D.Disk.faults c.args.store.disks c.args.store.disks refl
+pub returns-in-Err-seated-clause-later : goal.returns-in-Err-seated-clause-later
+returns-in-Err-seated-clause-later g c = none-fell g.D.Disk.faults c.args.store.disks c.args.store.disks refl

@@ -52,8 +52,8 @@ returns-in-Err-clause-later g c = none-fell g.D.Disk.faults c.args.store.disks c
 
 -- ---- a life
 
-pub returns-in-Ok-clause-ended : goal.returns-in-Ok-clause-ended
-returns-in-Ok-clause-ended g c = λ images.
+pub returns-in-Ok-get-clause-ended : goal.returns-in-Ok-get-clause-ended
+returns-in-Ok-get-clause-ended g c = λ images.
     inr
     (record {
       store = c.run_life.result.store;
@@ -65,15 +65,15 @@ returns-in-Ok-clause-ended g c = λ images.
       life = rw (c.in-Ok.ensures.head, c.as_slice.ensures) at c.run_life.ensures.ended;
     })
 
-pub returns-in-Ok-clause-refused : goal.returns-in-Ok-clause-refused
-returns-in-Ok-clause-refused g c entry e = not-stored _ _ entry c.run_life.ensures.ended e
+pub returns-in-Ok-get-clause-refused : goal.returns-in-Ok-get-clause-refused
+returns-in-Ok-get-clause-refused g c entry e = not-stored _ _ entry c.run_life.ensures.ended e
 
-pub returns-in-Ok-clause-trail : goal.returns-in-Ok-clause-trail
-returns-in-Ok-clause-trail g c e =
+pub returns-in-Ok-get-clause-trail : goal.returns-in-Ok-get-clause-trail
+returns-in-Ok-get-clause-trail g c e =
     rose_after _ _ _ c.in-Ok-get.ensures.cause.later (c.keep.ensures.rose (g.T.Sink.Sink.faults c.in-Ok-get.sink) c.in-Ok-get.ensures.taken (c.run_life.ensures.trail e))
 
-pub returns-in-Ok-clause-disk : goal.returns-in-Ok-clause-disk
-returns-in-Ok-clause-disk g c = rw (← c.into_disks.ensures) at c.run_life.ensures.disk
+pub returns-in-Ok-get-clause-disk : goal.returns-in-Ok-get-clause-disk
+returns-in-Ok-get-clause-disk g c = rw (← c.into_disks.ensures) at c.run_life.ensures.disk
 
-pub returns-in-Ok-clause-later : goal.returns-in-Ok-clause-later
-returns-in-Ok-clause-later g c = rw (← c.into_disks.ensures) at c.run_life.ensures.later
+pub returns-in-Ok-get-clause-later : goal.returns-in-Ok-get-clause-later
+returns-in-Ok-get-clause-later g c = rw (← c.into_disks.ensures) at c.run_life.ensures.later

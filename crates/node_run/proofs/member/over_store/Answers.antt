@@ -1,6 +1,7 @@
-use Rattle.std.proofs.Common.{◌≡◌, ◌∙◌, inl, inr, ℕ, length, Err, refl, sym, ap}
+use Rattle.std.proofs.Common.{◌≡◌, ◌∙◌, inl, inr, ℕ, length, Err, refl, sym, ap, subst}
 use Rattle.node_rules.specs.declared.node.Parts.{Parts}
 use Rattle.member_opening.specs.declared.fault.RestoreFault.{RestoreFault}
+use Rattle.member_opening.specs.Restorings.{KeepsCounts}
 use Rattle.node_run.specs.Members.{Run}
 use Rattle.node_run.specs.declared.status.NodeStatus.TheVariants as ends
 use Rattle.node_run.proofs.Refused.{for-restored, none-fell, restore-else}
@@ -10,8 +11,10 @@ use Rattle.node_run.proofs.member.over_store.Goals as goal
 -- ---- a life over what was restored
 
 pub live-requires-clause-core : goal.live-requires-clause-core
-live-requires-clause-core g c =
-    (c.in-Ok.ensures.broken, rw (c.requires.restored, ← ap (λ (p : Parts). length p.entries) c.parts_in-parts.ensures) c.in-Ok.ensures.counts)
+live-requires-clause-core g c = (
+  c.in-Ok.ensures.broken,
+  subst (λ (k : ℕ). KeepsCounts k c.in-Ok.core.node) (ap (λ (p : Parts). length p.entries) c.parts_in-parts.ensures ∙ sym c.requires.restored) c.in-Ok.ensures.counts,
+)
 
 pub returns-in-Ok-clause-ended : goal.returns-in-Ok-clause-ended
 returns-in-Ok-clause-ended g c = λ images restored.
