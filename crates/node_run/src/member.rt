@@ -90,7 +90,7 @@ where
     T::Sink: Send,
     requires core { (core.broken ≡ false) × KeepsCounts store.plan.restored core.node }
     requires opened { IsOpened D.told D.cells store }
-    ensures ended { (images : Images) → HasNotLived (record { meaning = S.meaning; settings = settings.now; told = D.told; images = images; left_before = I.left input.old; left_after = I.left input.new; written_before = W.written output.old; written_after = W.written output.new; trails_after = T.kept trails.new }) result.status ⊎ LifeOver (record { meaning = S.meaning; settings = settings.now; told = D.told; images = images; left_before = I.left input.old; left_after = I.left input.new; written_before = W.written output.old; written_after = W.written output.new; trails_after = T.kept trails.new }) core.node (head_by S.meaning settings.now parts.now) parts.now.entries result.disks result.status }
+    ensures ended { (images : Images) → HasNotLived (record { meaning = S.meaning; settings = settings.now; told = D.told; images = images; left_before = I.left input.old; left_after = I.left input.new; written_before = W.written output.old; written_after = W.written output.new; sink = T.Sink; text_of = T.Sink.written; trails_after = T.kept trails.new }) result.status ⊎ LifeOver (record { meaning = S.meaning; settings = settings.now; told = D.told; images = images; left_before = I.left input.old; left_after = I.left input.new; written_before = W.written output.old; written_after = W.written output.new; sink = T.Sink; text_of = T.Sink.written; trails_after = T.kept trails.new }) core.node (head_by S.meaning settings.now parts.now) parts.now.entries result.disks result.status }
     ensures refused { (entry : ℕ) → result.status ≡ NodeStatus.Store entry → ⊥ }
     ensures read { result.status ≡ NodeStatus.ReadFault → Rose (I.faults input.old) (I.faults input.new) }
     ensures write { result.status ≡ NodeStatus.WriteFault → Rose (W.faults output.old) (W.faults output.new) }
@@ -166,7 +166,7 @@ where
     T::Sink: Send,
     requires restored { store.plan.restored ≡ length kept.entries }
     requires opened { IsOpened D.told D.cells store }
-    ensures ended { (images : Images) → (D.told → kept ≡ restores images) → RunOver (record { meaning = S.meaning; settings = settings.now; told = D.told; images = images; left_before = I.left input.old; left_after = I.left input.new; written_before = W.written output.old; written_after = W.written output.new; trails_after = T.kept trails.new }) result.disks result.status }
+    ensures ended { (images : Images) → (D.told → kept ≡ restores images) → RunOver (record { meaning = S.meaning; settings = settings.now; told = D.told; images = images; left_before = I.left input.old; left_after = I.left input.new; written_before = W.written output.old; written_after = W.written output.new; sink = T.Sink; text_of = T.Sink.written; trails_after = T.kept trails.new }) result.disks result.status }
     ensures read { result.status ≡ NodeStatus.ReadFault → Rose (I.faults input.old) (I.faults input.new) }
     ensures write { result.status ≡ NodeStatus.WriteFault → Rose (W.faults output.old) (W.faults output.new) }
     ensures trail { result.status ≡ NodeStatus.TrailFault → Rose (T.faults trails.old) (T.faults trails.new) }
@@ -209,7 +209,7 @@ fn over_disks<
 where
     T::Sink: Send,
     requires { D.told → AreSettled D.cells disks }
-    ensures ended { RunOver (record { meaning = S.meaning; settings = settings.now; told = D.told; images = contents D.cells disks; left_before = I.left input.old; left_after = I.left input.new; written_before = W.written output.old; written_after = W.written output.new; trails_after = T.kept trails.new }) result.disks result.status }
+    ensures ended { RunOver (record { meaning = S.meaning; settings = settings.now; told = D.told; images = contents D.cells disks; left_before = I.left input.old; left_after = I.left input.new; written_before = W.written output.old; written_after = W.written output.new; sink = T.Sink; text_of = T.Sink.written; trails_after = T.kept trails.new }) result.disks result.status }
     ensures read { result.status ≡ NodeStatus.ReadFault → Rose (I.faults input.old) (I.faults input.new) }
     ensures write { result.status ≡ NodeStatus.WriteFault → Rose (W.faults output.old) (W.faults output.new) }
     ensures trail { result.status ≡ NodeStatus.TrailFault → Rose (T.faults trails.old) (T.faults trails.new) }
@@ -260,7 +260,7 @@ pub fn run_member<
 where
     M::Disk: Send,
     T::Sink: Send,
-    ensures ended { RunEnd (record { meaning = S.meaning; settings = settings.now; told = M.Disk.told; images = images_at (M.cells room.old) settings.now.dir settings.now.member; left_before = I.left input.old; left_after = I.left input.new; written_before = W.written output.old; written_after = W.written output.new; trails_after = T.kept trails.new }) M.Disk.cells (M.cells room.new) result }
+    ensures ended { RunEnd (record { meaning = S.meaning; settings = settings.now; told = M.Disk.told; images = images_at (M.cells room.old) settings.now.dir settings.now.member; left_before = I.left input.old; left_after = I.left input.new; written_before = W.written output.old; written_after = W.written output.new; sink = T.Sink; text_of = T.Sink.written; trails_after = T.kept trails.new }) M.Disk.cells (M.cells room.new) result }
     ensures read { result ≡ NodeStatus.ReadFault → Rose (I.faults input.old) (I.faults input.new) }
     ensures write { result ≡ NodeStatus.WriteFault → Rose (W.faults output.old) (W.faults output.new) }
     ensures trail { result ≡ NodeStatus.TrailFault → Rose (T.faults trails.old) (T.faults trails.new) }

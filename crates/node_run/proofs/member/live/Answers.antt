@@ -28,6 +28,8 @@ returns-in-Err-clause-ended g c = λ images.
       left_after = g.I.Source.left c.args.input.now;
       written_before = g.W.Sink.written c.args.output.now;
       written_after = g.W.Sink.written c.args.output.now;
+      sink = g.row.T-Sink.Denot;
+      text_of = g.T.Sink.Sink.written;
       trails_after = g.T.TrailRoom.kept c.get.new.self;
     } in
     inl (for-trail r c.trail_status.result refl refl c.in-Err.fault c.trail_status.ensures)
@@ -58,9 +60,9 @@ returns-in-Ok-get-clause-ended g c = λ images.
     (record {
       store = c.run_life.result.store;
       left = c.into_disks.ensures;
-      begun = g.T.Sink.Sink.written c.in-Ok-get.sink;
+      begun = c.in-Ok-get.sink;
       empty = c.in-Ok-get.ensures.empty;
-      told = g.T.Sink.Sink.written c.run_life.result.sink;
+      told = c.run_life.result.sink;
       trail = rw c.as_slice-dir.ensures at c.keep.ensures.text;
       life = rw (c.in-Ok.ensures.head, c.as_slice.ensures) at c.run_life.ensures.ended;
     })

@@ -47,6 +47,8 @@ returns-in-Err-clause-ended g c =
       left_after = g.I.Source.left c.args.input.now;
       written_before = g.W.Sink.written c.args.output.now;
       written_after = g.W.Sink.written c.args.output.now;
+      sink = g.row.T-Sink.Denot;
+      text_of = g.T.Sink.Sink.written;
       trails_after = g.T.TrailRoom.kept c.args.trails.now;
     } in
     inl (for-store r c.store_status.result refl refl c.in-Err.fault c.store_status.ensures)

@@ -28,6 +28,8 @@ returns-in-Ok-clause-ended g c = λ images restored.
       left_after = g.I.Source.left c.live.new.input;
       written_before = g.W.Sink.written c.args.output.now;
       written_after = g.W.Sink.written c.live.new.output;
+      sink = g.row.T-Sink.Denot;
+      text_of = g.T.Sink.Sink.written;
       trails_after = g.T.TrailRoom.kept c.live.new.trails;
     } in
     run-over r c.args.kept restored c.parts_in-parts.result c.parts_in-parts.ensures c.in-Ok.core.node c.live.result.disks c.live.result.status c.in-Ok.ensures.whole c.in-Ok.ensures.node (c.live.ensures.ended images)
@@ -46,6 +48,8 @@ returns-in-Err-clause-ended g c = λ images restored.
       left_after = g.I.Source.left c.args.input.now;
       written_before = g.W.Sink.written c.args.output.now;
       written_after = g.W.Sink.written c.args.output.now;
+      sink = g.row.T-Sink.Denot;
+      text_of = g.T.Sink.Sink.written;
       trails_after = g.T.TrailRoom.kept c.args.trails.now;
     } in
     inl

@@ -28,6 +28,8 @@ returns-in-Ok-clause-ended g c =
       left_after = g.I.Source.left c.over_disks.new.input;
       written_before = g.W.Sink.written c.args.output.now;
       written_after = g.W.Sink.written c.over_disks.new.output;
+      sink = g.row.T-Sink.Denot;
+      text_of = g.T.Sink.Sink.written;
       trails_after = g.T.TrailRoom.kept c.over_disks.new.trails;
     } in
     run-end r (images_at (g.M.DiskRoom.cells c.args.room.now) c.args.settings.now.dir c.args.settings.now.member) (rw c.as_slice-dir.ensures at c.in-Ok.ensures.contents) c.over_disks.result.disks c.over_disks.result.status
@@ -50,6 +52,8 @@ returns-in-Err-clause-ended g c =
       left_after = g.I.Source.left c.args.input.now;
       written_before = g.W.Sink.written c.args.output.now;
       written_after = g.W.Sink.written c.args.output.now;
+      sink = g.row.T-Sink.Denot;
+      text_of = g.T.Sink.Sink.written;
       trails_after = g.T.TrailRoom.kept c.args.trails.now;
     } in
     inl (for-room r c.room_status.result refl refl c.in-Err.fault c.room_status.ensures)
