@@ -31,20 +31,20 @@ pub record IsTakenIn (bytes : List ℕ) (stream : Stream) (put : List (List ℕ)
 abbrev pub HasTakenIn : List ℕ → Intake → Type 0
 HasTakenIn bytes i = IsTakenIn bytes i.frames (link_put i.link) i.waiting i.count i.is_long
 
--- whether a turn was the last one of an input that is not whole
+-- whether a turn may have lost bytes of the input: it was the last one, for a failure or for want of memory
 abbrev pub is_cut : Taking → Bool
 is_cut Done = false
 is_cut Full = false
 is_cut (Ended Whole) = false
-is_cut (Ended (Form n)) = true
+is_cut (Ended (Form n)) = false
 is_cut (Ended Failed) = true
 is_cut (Ended NoMemory) = true
 
--- whether an intake ended before its input was whole
+-- whether an intake may have lost bytes of its input: it was told to end, or ended for a failure or for want of memory
 abbrev pub is_early : Option InputEnd → Bool
 is_early None = true
 is_early (Some Whole) = false
-is_early (Some (Form n)) = true
+is_early (Some (Form n)) = false
 is_early (Some Failed) = true
 is_early (Some NoMemory) = true
 
@@ -54,7 +54,7 @@ HasFedOn piece result old new =
     (bytes : List ℕ) → old.is_long ≡ false → HasTakenIn bytes old
     → (is_cut result ≡ false → HasTakenIn (bytes ++ piece) new) × (is_cut result ≡ true → HasTakenIn bytes new)
 
--- More of an input was read, and was taken in. Only an input that is not whole may have lost bytes behind them.
+-- More of an input was read, and was taken in. Bytes behind them may be lost only where the reading did not come to the end of the input or to a frame that is none.
 pub record Reads (left left' : Option (List ℕ)) (cut : Bool) (old new : Intake) : Type 0 where
   pub more : List ℕ
   pub lost : List ℕ
