@@ -1,5 +1,6 @@
 -- What a loop's answer says of the call that made it.
 use Rattle.std.proofs.Common.{◌≡◌, ◌≤◌, ℕ, Bool, true, false, not, List, Option, sym, subst, arith}
+use Rattle.std.proofs.lemmas.Bool.Decides.{nat_tests}
 use Rattle.check_worker.specs.Hands.{last_then}
 use Rattle.node_ends.specs.Intakes.{Reads, is_early}
 use Rattle.node_ends.specs.Outlets.{Writes}
@@ -13,4 +14,4 @@ pub writes-by : (a b : Option (List ℕ)) (up : Bool) (i j : Outlet) → up ≡ 
 writes-by a b up i j is p = subst (λ (l : Bool). Writes a b (not l) i j) (sym is) p
 
 pub last_up : (last place : ℕ) → last ≤ last_then last place
-last_up last place = grind arith
+last_up last place = grind (arith, nat_tests)

@@ -16,6 +16,7 @@ use log_lane::ends::LaneEnd;
 use log_worker::home::Home;
 use log_worker::worker::LogWorker;
 use node_core::node::NodeCore;
+use node_played::played::Played;
 use node_seat::place::Place;
 use node_seat::seat::{Seat, SeatParts};
 use smart_base::sequence::Bytes;
@@ -40,6 +41,15 @@ pub struct NodeEnd<S: Service, O: Sink, D: Disk> {
     pub lane: LaneEnd,
     pub arriving: LinkEnd,
     pub leaving: LinkEnd,
+}
+
+/// Whether want of memory stopped an event of a core half-way. If it did, the seat is over.
+fn is_stuck<S: Service, P: Place<S>>(inner: &Played<S, P>, over: bool) -> bool
+    requires { over ≡ false → inner.now.stuck ≡ false }
+    ensures whole { over ≡ false → result ≡ false }
+    ensures kept { result ≡ false → inner.now.stuck ≡ false }
+{
+    over && !inner.is_whole()
 }
 
 /// Takes a seat apart whose loops are joined, and brings the ends of its lane and of its links together.
@@ -80,7 +90,7 @@ pub fn finish<S: Service, P: Place<S>, O: Sink, D: Disk, H: Home>(
         over,
         failed,
     } = seat.into_parts();
-    let stuck = !inner.is_whole();
+    let stuck = is_stuck(&inner, over);
     let (core, trail, inward) = inner.into_parts();
     let (outward, store) = worker.into_parts();
     let lane = log_lane::ends::rejoin(inward, outward);

@@ -1,5 +1,10 @@
 //! How the core of a node steps: what the lane tells, the batch that waits, a tick, the next arrival.
-ghost use Rattle.std.specs.Prelude.{◌≡◌};
+ghost use Rattle.std.specs.Prelude.{◌≡◌, ◌++◌, ◌∷◌, [], false, true, is_some};
+ghost use Rattle.node_rules.specs.Kept.{core_step};
+ghost use Rattle.smart_statements.specs.declared.entry.NodeEvent.TheVariants.{Deliver};
+ghost use Rattle.trail.specs.declared.event.TrailEvent.TheVariants.{Happens};
+ghost use Rattle.trail_rules.specs.Replays.{core_steps, replay};
+ghost use Rattle.node_threads.specs.Delivered.{place_fired, place_told, is_played};
 
 use crate::cell::CellOf;
 use clock_gate::clock::Clock;
@@ -27,7 +32,9 @@ pub enum Delivering {
 }
 
 /// The place of the batch that a step delivered, if it delivered one.
-fn place_delivered(fired: &[Fired]) -> Option<u64> {
+fn place_delivered(fired: &[Fired]) -> Option<u64>
+    ensures { result ≡ place_fired fired.now }
+{
     for rule in fired {
         if let Fired::Delivered(delivery) = rule {
             return Some(delivery.place.get());
@@ -37,7 +44,10 @@ fn place_delivered(fired: &[Fired]) -> Option<u64> {
 }
 
 /// What a step that may have delivered a batch tells.
-fn told_by(outcome: &Outcome) -> Delivering {
+fn told_by(outcome: &Outcome) -> Delivering
+    ensures played { is_played result ≡ true }
+    ensures place { place_told result ≡ place_fired outcome.now.fired }
+{
     match place_delivered(outcome.fired.as_slice()) {
         Some(place) => Delivering::Delivered { place },
         None => Delivering::Played,
@@ -48,7 +58,16 @@ fn told_by(outcome: &Outcome) -> Delivering {
 pub fn deliver_next<S: Service, P: Place<S>, O: Sink, R: Wait>(
     rt: &R,
     seat: &mut Seat<S, P, O>,
-) -> Delivering {
+) -> Delivering
+    ensures done { is_played result ≡ true → seat.new.inner.trail.items ≡ seat.old.inner.trail.items ++ Happens Deliver ∷ [] }
+    ensures place { is_played result ≡ true → place_told result ≡ place_fired (core_step S.meaning (replay (core_steps S.meaning) P.opening seat.old.inner.trail.items) Deliver).fired }
+    ensures not_done { result ≡ Delivering.Not Turn.Done → ⊥ }
+    ensures nothing { result ≡ Delivering.Not Turn.Nothing → (seat.new.inner.trail.items ≡ seat.old.inner.trail.items) × (is_some (replay (core_steps S.meaning) P.opening seat.old.inner.trail.items).waiting ≡ false) }
+    ensures no_room { result ≡ Delivering.Not Turn.NoRoom → seat.new.inner.trail.items ≡ seat.old.inner.trail.items }
+    ensures over { result ≡ Delivering.Not Turn.Over → seat.new.over ≡ true }
+    ensures whole { seat.new.over ≡ true → result ≡ Delivering.Not Turn.Over }
+    ensures stays { seat.old.over ≡ true → seat.new.inner.trail.items ≡ seat.old.inner.trail.items }
+{
     if seat.is_over() {
         return Delivering::Not(Turn::Over);
     }
