@@ -12,7 +12,7 @@ use Rattle.node_ends.specs.Intakes.{HasTakenIn, Reads, IsDone, IsCutOff as is-cu
 use Rattle.node_ends.specs.Outlets.{Writes}
 use Rattle.node_ends.specs.declared.intake.Intake.{Intake}
 use Rattle.node_ends.specs.declared.outlet.Outlet.{Outlet}
-use Rattle.node_threads.specs.Loops.{is_done, gave_up}
+use Rattle.node_threads.specs.Loops.{is_done, gave_up, loses}
 use Rattle.node_threads.specs.Settled.{EndsSettled}
 use Rattle.node_threads.specs.declared.ending.Ends.{Ends}
 use Rattle.node_threads.specs.declared.ending.LoopEnd.TheVariants as loops
@@ -24,13 +24,13 @@ use Rattle.node_run.proofs.Causes.{both-true, done-goes-on, done-is}
 use Rattle.node_run.proofs.Living.{cut-off, ends_by, lived, whole}
 
 module _ {S : Type 0} (life : Life S) (i0 i1 : Intake) (o0 o1 : Outlet) (trail : List TrailEvent) (all : Ends) (fresh : HasTakenIn [] i0)
-    (reads : Reads life.left_before life.left_after (not (is_done all.received)) i0 i1) (came : IsFirst (arrivals trail) (link_put i1.link)) (none : link_taken o0.link ≡ [])
+    (reads : Reads life.left_before life.left_after (loses all.received) i0 i1) (came : IsFirst (arrivals trail) (link_put i1.link)) (none : link_taken o0.link ≡ [])
     (writes : Writes life.written_before life.written_after (not (gave_up all.sent)) o0 o1) (left : IsFirst (link_taken o1.link) (payloads trail))
     (released : Released (core_steps life.meaning) life.opening trail) (needs : needed (core_steps life.meaning) life.opening trail ≤ life.firm)
     (firm : (replay (core_steps life.meaning) life.opening trail).firm ≤ life.firm) (text : HasWrittenFirst life.told_before life.told_after (trail_text life.head life.entries trail)) where
   -- all that holds of the life
   abbrev the-life : Lived life
-  the-life = lived life i0 i1 o0 o1 trail (not (is_done all.received)) (not (gave_up all.sent)) fresh reads came none writes left released needs firm text
+  the-life = lived life i0 i1 o0 o1 trail (loses all.received) (not (gave_up all.sent)) fresh reads came none writes left released needs firm text
 
   module _ (over failed settled : Bool) (arriving leaving : LinkEnd) (at-end : all.received ≡ loops.Done → IsAtEnd life.left_after × IsDone i1)
       (form : (frame : ℕ) → all.received ≡ loops.Form frame → (frame ≡ min (i1.count + 1) (2 ^ 64 - 1)) × is-cut-off life.left_after i1)
@@ -46,14 +46,15 @@ module _ {S : Type 0} (life : Life S) (i0 i1 : Intake) (o0 o1 : Outlet) (trail :
         let logged = both-true (is_done all.received && is_done all.delivered && is_done all.sent) (is_done all.logged) checked.0 in
         let sent = both-true (is_done all.received && is_done all.delivered) (is_done all.sent) logged.0 in
         let received = both-true (is_done all.received) (is_done all.delivered) sent.0 in
-        let read = at-end (done-is all.received received.0) in
+        let over-read : all.received ≡ loops.Done = done-is all.received received.0 in
+        let read = at-end over-read in
         let done = closed s.0 in
-        whole life i0 i1 o0 o1 trail (not (is_done all.received)) (not (gave_up all.sent)) fresh reads came none writes left released needs firm text (ap not received.0) (done-goes-on all.sent sent.1) read.0 read.1
+        whole life i0 i1 o0 o1 trail (loses all.received) (not (gave_up all.sent)) fresh reads came none writes left released needs firm text (ap loses over-read) (done-goes-on all.sent sent.1) read.0 read.1
         (all-came done.0 (eqb-true arriving.taken arriving.put went.0)) (all-left done.0 (eqb-true leaving.taken leaving.put went.1)) done.1 (all-text done.0)
 
     is-cut : (frame : ℕ) → all.received ≡ loops.Form frame → IsCutOff the-life frame
     is-cut frame is =
-        cut-off life i0 i1 o0 o1 trail (not (is_done all.received)) (not (gave_up all.sent)) fresh reads came none writes left released needs firm text frame (form frame is).0 (form frame is).1
+        cut-off life i0 i1 o0 o1 trail (loses all.received) (not (gave_up all.sent)) fresh reads came none writes left released needs firm text (ap loses is) frame (form frame is).0 (form frame is).1
 
     pub life-end : LifeEnd life (status_of all failed (settled && all_went arriving leaving))
     life-end = record { lived = the-life; ends = ends_by the-life all failed (settled && all_went arriving leaving) is-whole is-cut }
