@@ -54,28 +54,28 @@ seated-requires-clause-later g c = omega (arith, c.requires.begun.1, c.in_defaul
 
 -- ---- the worker
 
-pub new-requires-clause-lane : goal.new-requires-clause-lane
-new-requires-clause-lane g c = (sym c.requires.fresh.lane ∙ sym c.requires.lane.0, (c.requires.fresh.none_taken, c.requires.fresh.none_raised))
+pub new-worker-requires-clause-lane : goal.new-worker-requires-clause-lane
+new-worker-requires-clause-lane g c = (sym c.requires.fresh.lane ∙ sym c.requires.lane.0, (c.requires.fresh.none_taken, c.requires.fresh.none_raised))
 
-pub new-requires-clause-restored : goal.new-requires-clause-restored
-new-requires-clause-restored g c = (sym c.requires.lane.1, (c.requires.opened.few, omega (arith, c.requires.opened.firm)))
+pub new-worker-requires-clause-restored : goal.new-worker-requires-clause-restored
+new-worker-requires-clause-restored g c = (sym c.requires.lane.1, (c.requires.opened.few, omega (arith, c.requires.opened.firm)))
 
-pub new-requires-clause-rests : goal.new-requires-clause-rests
-new-requires-clause-rests g c = (c.requires.opened.idle, (c.requires.opened.unasked, c.requires.opened.is_open))
+pub new-worker-requires-clause-rests : goal.new-worker-requires-clause-rests
+new-worker-requires-clause-rests g c = (c.requires.opened.idle, (c.requires.opened.unasked, c.requires.opened.is_open))
 
-pub new-requires-clause-none : goal.new-requires-clause-none
-new-requires-clause-none g c = c.requires.opened.none
+pub new-worker-requires-clause-none : goal.new-worker-requires-clause-none
+new-worker-requires-clause-none g c = c.requires.opened.none
 
 -- ---- the life
 
 pub run_seated-requires-clause-arriving : goal.run_seated-requires-clause-arriving
-run_seated-requires-clause-arriving g c = (sym c.requires.links.0, c.requires.fresh.none_came)
+run_seated-requires-clause-arriving g c = λ _. (sym c.requires.links.0, c.requires.fresh.none_came)
 
 pub run_seated-requires-clause-leaving : goal.run_seated-requires-clause-leaving
-run_seated-requires-clause-leaving g c = (sym c.requires.fresh.leaving ∙ sym c.requires.links.1, c.requires.fresh.none_wrote)
+run_seated-requires-clause-leaving g c = λ _. (sym c.requires.fresh.leaving ∙ sym c.requires.links.1, c.requires.fresh.none_wrote)
 
 pub run_seated-requires-clause-sound : goal.run_seated-requires-clause-sound
-run_seated-requires-clause-sound g c = c.new-worker.ensures.stands c.requires.opened.stands
+run_seated-requires-clause-sound g c = λ _. c.new-worker.ensures.stands c.requires.opened.stands
 
 pub returns-in-Ok-clause-ended : goal.returns-in-Ok-clause-ended
 returns-in-Ok-clause-ended g c = rw (c.requires.opening.0, c.requires.opening.1.0, c.requires.opening.1.1, c.requires.begun.0) at c.run_seated.ensures.ended

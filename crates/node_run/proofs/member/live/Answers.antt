@@ -50,7 +50,7 @@ pub returns-in-Err-clause-disk : goal.returns-in-Err-clause-disk
 returns-in-Err-clause-disk g c e = absurd (trail-else c.in-Err.fault ends.DiskFault (λ e. cc) (λ e. cc) (sym c.trail_status.ensures ∙ e))
 
 pub returns-in-Err-clause-later : goal.returns-in-Err-clause-later
-returns-in-Err-clause-later g c = none-fell g.D.Disk.faults c.args.store.disks c.into_disks.result c.into_disks.ensures
+returns-in-Err-clause-later g c = none-fell g.D.Disk.faults c.args.store.disks c.into_disks-in-Err.result c.into_disks-in-Err.ensures
 
 -- ---- a life
 
@@ -58,24 +58,24 @@ pub returns-in-Ok-get-clause-ended : goal.returns-in-Ok-get-clause-ended
 returns-in-Ok-get-clause-ended g c = λ images.
     inr
     (record {
-      store = c.run_life.result.store;
-      left = c.into_disks.ensures;
+      store = c.run_life-store.result.store;
+      left = c.into_disks-in-Ok-get.ensures;
       begun = c.in-Ok-get.sink;
       empty = c.in-Ok-get.ensures.empty;
-      told = c.run_life.result.sink;
+      told = c.run_life-store.result.sink;
       trail = rw c.as_slice-dir.ensures at c.keep.ensures.text;
-      life = rw (c.in-Ok.ensures.head, c.as_slice.ensures) at c.run_life.ensures.ended;
+      life = rw (c.in-Ok.ensures.head, c.as_slice.ensures) at c.run_life-store.ensures.ended;
     })
 
 pub returns-in-Ok-get-clause-refused : goal.returns-in-Ok-get-clause-refused
-returns-in-Ok-get-clause-refused g c entry e = not-stored _ _ entry c.run_life.ensures.ended e
+returns-in-Ok-get-clause-refused g c entry e = not-stored _ _ entry c.run_life-store.ensures.ended e
 
 pub returns-in-Ok-get-clause-trail : goal.returns-in-Ok-get-clause-trail
 returns-in-Ok-get-clause-trail g c e =
-    rose_after _ _ _ c.in-Ok-get.ensures.cause.later (c.keep.ensures.rose (g.T.Sink.Sink.faults c.in-Ok-get.sink) c.in-Ok-get.ensures.taken (c.run_life.ensures.trail e))
+    rose_after _ _ _ c.in-Ok-get.ensures.cause.later (c.keep.ensures.rose (g.T.Sink.Sink.faults c.in-Ok-get.sink) c.in-Ok-get.ensures.taken (c.run_life-store.ensures.trail e))
 
 pub returns-in-Ok-get-clause-disk : goal.returns-in-Ok-get-clause-disk
-returns-in-Ok-get-clause-disk g c = rw (← c.into_disks.ensures) at c.run_life.ensures.disk
+returns-in-Ok-get-clause-disk g c = rw (← c.into_disks-in-Ok-get.ensures) at c.run_life-store.ensures.disk
 
 pub returns-in-Ok-get-clause-later : goal.returns-in-Ok-get-clause-later
-returns-in-Ok-get-clause-later g c = rw (← c.into_disks.ensures) at c.run_life.ensures.later
+returns-in-Ok-get-clause-later g c = rw (← c.into_disks-in-Ok-get.ensures) at c.run_life-store.ensures.later

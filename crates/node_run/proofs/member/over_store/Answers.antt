@@ -36,8 +36,8 @@ returns-in-Ok-clause-ended g c = λ images restored.
 
 -- ---- an entry has no meaning, or there is no memory
 
-pub returns-in-Err-clause-ended : goal.returns-in-Err-clause-ended
-returns-in-Err-clause-ended g c = λ images restored.
+pub returns-clause-ended : goal.returns-clause-ended
+returns-clause-ended g c = λ images restored.
     let r : Run g.row.S.Denot =
     record {
       meaning = g.S.Service.meaning;
@@ -56,17 +56,17 @@ returns-in-Err-clause-ended g c = λ images restored.
     (for-restored r c.restore_status.result refl refl c.in-Err.fault
     (λ entry is. is-refused r c.args.kept restored c.parts_in-parts.result c.parts_in-parts.ensures entry (c.in-Err.ensures.cause entry (ap (λ (f : RestoreFault). Err f) is))) c.restore_status.ensures)
 
-pub returns-in-Err-clause-read : goal.returns-in-Err-clause-read
-returns-in-Err-clause-read g c e = absurd (restore-else c.in-Err.fault ends.ReadFault (λ n e. cc) (λ e. cc) (sym c.restore_status.ensures ∙ e))
+pub returns-clause-read : goal.returns-clause-read
+returns-clause-read g c e = absurd (restore-else c.in-Err.fault ends.ReadFault (λ n e. cc) (λ e. cc) (sym c.restore_status.ensures ∙ e))
 
-pub returns-in-Err-clause-write : goal.returns-in-Err-clause-write
-returns-in-Err-clause-write g c e = absurd (restore-else c.in-Err.fault ends.WriteFault (λ n e. cc) (λ e. cc) (sym c.restore_status.ensures ∙ e))
+pub returns-clause-write : goal.returns-clause-write
+returns-clause-write g c e = absurd (restore-else c.in-Err.fault ends.WriteFault (λ n e. cc) (λ e. cc) (sym c.restore_status.ensures ∙ e))
 
-pub returns-in-Err-clause-trail : goal.returns-in-Err-clause-trail
-returns-in-Err-clause-trail g c e = absurd (restore-else c.in-Err.fault ends.TrailFault (λ n e. cc) (λ e. cc) (sym c.restore_status.ensures ∙ e))
+pub returns-clause-trail : goal.returns-clause-trail
+returns-clause-trail g c e = absurd (restore-else c.in-Err.fault ends.TrailFault (λ n e. cc) (λ e. cc) (sym c.restore_status.ensures ∙ e))
 
-pub returns-in-Err-clause-disk : goal.returns-in-Err-clause-disk
-returns-in-Err-clause-disk g c e = absurd (restore-else c.in-Err.fault ends.DiskFault (λ n e. cc) (λ e. cc) (sym c.restore_status.ensures ∙ e))
+pub returns-clause-disk : goal.returns-clause-disk
+returns-clause-disk g c e = absurd (restore-else c.in-Err.fault ends.DiskFault (λ n e. cc) (λ e. cc) (sym c.restore_status.ensures ∙ e))
 
-pub returns-in-Err-clause-later : goal.returns-in-Err-clause-later
-returns-in-Err-clause-later g c = none-fell g.D.Disk.faults c.args.store.disks c.into_disks.result c.into_disks.ensures
+pub returns-clause-later : goal.returns-clause-later
+returns-clause-later g c = none-fell g.D.Disk.faults c.args.store.disks c.into_disks.result c.into_disks.ensures

@@ -8,11 +8,11 @@ use Rattle.node_run.proofs.Refused.{for-room, room-else, room-failed}
 use Rattle.node_run.proofs.Running.{held-still, run-end}
 use Rattle.node_run.proofs.member.run_member.Goals as goal
 
-pub over_disks-requires : goal.over_disks-requires
-over_disks-requires g c = c.in-Ok.ensures.settled
+pub over_disks-disks-requires : goal.over_disks-disks-requires
+over_disks-disks-requires g c = λ _. c.in-Ok.ensures.settled
 
 pub put_back-requires : goal.put_back-requires
-put_back-requires g c = held-still _ _ _ _ _ _ c.in-Ok.ensures.held c.over_disks.ensures.later
+put_back-requires g c = held-still _ _ _ _ _ _ c.in-Ok.ensures.held c.over_disks-disks.ensures.later
 
 -- ---- a run over devices that were taken
 
@@ -25,18 +25,18 @@ returns-in-Ok-clause-ended g c =
       told = g.M.Disk.Disk.told;
       images = contents g.M.Disk.Disk.cells c.in-Ok.disks;
       left_before = g.I.Source.left c.args.input.now;
-      left_after = g.I.Source.left c.over_disks.new.input;
+      left_after = g.I.Source.left c.over_disks-disks.new.input;
       written_before = g.W.Sink.written c.args.output.now;
-      written_after = g.W.Sink.written c.over_disks.new.output;
+      written_after = g.W.Sink.written c.over_disks-disks.new.output;
       sink = g.row.T-Sink.Denot;
       text_of = g.T.Sink.Sink.written;
-      trails_after = g.T.TrailRoom.kept c.over_disks.new.trails;
+      trails_after = g.T.TrailRoom.kept c.over_disks-disks.new.trails;
     } in
-    run-end r (images_at (g.M.DiskRoom.cells c.args.room.now) c.args.settings.now.dir c.args.settings.now.member) (rw c.as_slice-dir.ensures at c.in-Ok.ensures.contents) c.over_disks.result.disks c.over_disks.result.status
-    g.M.Disk.Disk.cells (g.M.DiskRoom.cells c.put_back.new.room) (rw c.as_slice-dir.ensures at c.put_back.ensures.contents) c.over_disks.ensures.ended
+    run-end r (images_at (g.M.DiskRoom.cells c.args.room.now) c.args.settings.now.dir c.args.settings.now.member) (rw c.as_slice-dir.ensures at c.in-Ok.ensures.contents) c.over_disks-disks.result.disks c.over_disks-disks.result.status
+    g.M.Disk.Disk.cells (g.M.DiskRoom.cells c.put_back.new.room) (rw c.as_slice-dir.ensures at c.put_back.ensures.contents) c.over_disks-disks.ensures.ended
 
 pub returns-in-Ok-clause-disk : goal.returns-in-Ok-clause-disk
-returns-in-Ok-clause-disk g c e = rose_after _ _ _ c.in-Ok.ensures.cause.later (c.put_back.ensures.rose c.in-Ok.disks c.in-Ok.ensures.held (c.over_disks.ensures.disk e))
+returns-in-Ok-clause-disk g c e = rose_after _ _ _ c.in-Ok.ensures.cause.later (c.put_back.ensures.rose c.in-Ok.disks c.in-Ok.ensures.held (c.over_disks-disks.ensures.disk e))
 
 -- ---- devices that could not be taken
 
