@@ -69,13 +69,13 @@ new-worker-requires-clause-none g c = c.requires.opened.none
 -- ---- the life
 
 pub run_seated-requires-clause-arriving : goal.run_seated-requires-clause-arriving
-run_seated-requires-clause-arriving g c = λ _. (sym c.requires.links.0, c.requires.fresh.none_came)
+run_seated-requires-clause-arriving g c = λ _ _. (sym c.requires.links.0, c.requires.fresh.none_came)
 
 pub run_seated-requires-clause-leaving : goal.run_seated-requires-clause-leaving
-run_seated-requires-clause-leaving g c = λ _. (sym c.requires.fresh.leaving ∙ sym c.requires.links.1, c.requires.fresh.none_wrote)
+run_seated-requires-clause-leaving g c = λ _ _. (sym c.requires.fresh.leaving ∙ sym c.requires.links.1, c.requires.fresh.none_wrote)
 
 pub run_seated-requires-clause-sound : goal.run_seated-requires-clause-sound
-run_seated-requires-clause-sound g c = λ _. c.new-worker.ensures.stands c.requires.opened.stands
+run_seated-requires-clause-sound g c = λ _ _. c.new-worker.ensures.stands c.requires.opened.stands
 
 pub returns-in-Ok-clause-ended : goal.returns-in-Ok-clause-ended
 returns-in-Ok-clause-ended g c = rw (c.requires.opening.0, c.requires.opening.1.0, c.requires.opening.1.1, c.requires.begun.0) at c.run_seated.ensures.ended

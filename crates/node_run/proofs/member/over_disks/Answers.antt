@@ -10,10 +10,10 @@ use Rattle.node_run.proofs.member.over_disks.Goals as goal
 -- ---- over the store that was opened
 
 pub over_store-requires-clause-restored : goal.over_store-requires-clause-restored
-over_store-requires-clause-restored g c = λ _. c.in-Ok.ensures.firm.1
+over_store-requires-clause-restored g c = λ _ _. c.in-Ok.ensures.firm.1
 
 pub over_store-requires-clause-opened : goal.over_store-requires-clause-opened
-over_store-requires-clause-opened g c = λ _.
+over_store-requires-clause-opened g c = λ _ _.
     let e = c.in-Ok.ensures in record {
       few = omega (arith, e.firm.1, c.len-restored.ensures.value, c.len-restored.ensures.small);
       firm = e.firm.0 ∙ sym e.firm.1;

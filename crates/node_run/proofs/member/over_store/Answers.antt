@@ -11,7 +11,7 @@ use Rattle.node_run.proofs.member.over_store.Goals as goal
 -- ---- a life over what was restored
 
 pub live-requires-clause-core : goal.live-requires-clause-core
-live-requires-clause-core g c = (
+live-requires-clause-core g c = λ _ _. (
   c.in-Ok.ensures.broken,
   subst (λ (k : ℕ). KeepsCounts k c.in-Ok.core.node) (ap (λ (p : Parts). length p.entries) c.parts_in-parts.ensures ∙ sym c.requires.restored) c.in-Ok.ensures.counts,
 )

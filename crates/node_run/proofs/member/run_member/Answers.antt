@@ -8,9 +8,6 @@ use Rattle.node_run.proofs.Refused.{for-room, room-else, room-failed}
 use Rattle.node_run.proofs.Running.{held-still, run-end}
 use Rattle.node_run.proofs.member.run_member.Goals as goal
 
-pub over_disks-disks-requires : goal.over_disks-disks-requires
-over_disks-disks-requires g c = λ _. c.in-Ok.ensures.settled
-
 pub put_back-requires : goal.put_back-requires
 put_back-requires g c = held-still _ _ _ _ _ _ c.in-Ok.ensures.held c.over_disks-disks.ensures.later
 
