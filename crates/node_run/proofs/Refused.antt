@@ -1,5 +1,5 @@
 -- A run that ends before a life, by the fault for which it does.
-use Rattle.std.proofs.Common.{◌≡◌, ◌≤◌, ℕ, true, false, Err, refl, sym, subst, arith}
+use Rattle.std.proofs.Common.{◌≡◌, ℕ, true, false, Err, refl, sym, subst, arith}
 use Rattle.faults.specs.Counts.{HasCause, Rose}
 use Rattle.faults.specs.declared.Fault.{Fault}
 use Rattle.faults.specs.declared.Fault.TheVariants.{Failed, NoMemory}

@@ -1,7 +1,7 @@
 -- The run of a member, from what its parts tell.
-use Rattle.std.proofs.Common.{◌≡◌, ◌∙◌, ◌≤◌, ◌⊎◌, inl, inr, ℕ, List, Option, Some, None, sym, ap, subst, arith}
+use Rattle.std.proofs.Common.{◌≡◌, ◌∙◌, ◌⊎◌, inl, inr, ℕ, List, Option, Some, None, sym, ap, subst, arith}
 use Rattle.disk_model.specs.Cells.{Cells}
-use Rattle.disk_model.specs.Rooms.{Address, address}
+use Rattle.disk_model.specs.Rooms.{Address}
 use Rattle.store_laws.specs.Restored.{Images, restores}
 use Rattle.store_laws.specs.declared.job.Kept.{Kept}
 use Rattle.durable_store.specs.Disks.{NoneFell, contents}
@@ -12,7 +12,7 @@ use Rattle.member_opening.specs.Devices.{AreHeld, images_at}
 use Rattle.member_opening.specs.Headings.{head_by}
 use Rattle.member_opening.specs.Restorings.{node_by, parts_in, store_fault}
 use Rattle.trail.specs.declared.opening.TrailOpening.{TrailOpening}
-use Rattle.node_run.specs.Members.{HasKept, HasLived, HasNotLived, IsRefused, LifeOver, RefusedBy, Run, RunEnd, RunOver}
+use Rattle.node_run.specs.Members.{HasLived, HasNotLived, IsRefused, LifeOver, RefusedBy, Run, RunEnd, RunOver}
 use Rattle.node_run.specs.declared.status.NodeStatus.{NodeStatus}
 use Rattle.node_run.specs.declared.status.NodeStatus.TheVariants as ends
 

@@ -1,5 +1,4 @@
-use Rattle.std.proofs.Common.{◌≡◌, ◌∙◌, ◌≤◌, [], refl, sym, ap, subst, arith}
-use Rattle.member_opening.specs.Restorings.{KeepsCounts}
+use Rattle.std.proofs.Common.{◌∙◌, refl, sym, subst, arith}
 use Rattle.node_run.specs.Lives.{Life, LifeEnd}
 use Rattle.node_run.proofs.Beginning.{headless, seatless}
 use Rattle.node_run.proofs.Refused.{none-fell, trail-failed}

@@ -1,6 +1,5 @@
-use Rattle.std.proofs.Common.{◌≡◌, ◌∙◌, ◌≤◌, ◌&&◌, sym, ap, subst}
+use Rattle.std.proofs.Common.{◌∙◌, ◌&&◌, sym, ap, subst}
 use Rattle.group_links.specs.Link.{link_taken}
-use Rattle.trail_rules.specs.Replays.{core_steps, replay, needed}
 use Rattle.node_run.specs.Lives.{Life, LifeEnd}
 use Rattle.node_run.specs.Statuses.{all_went}
 use Rattle.node_run.proofs.Causes.{disk-cause, read-cause, trail-cause, write-cause}

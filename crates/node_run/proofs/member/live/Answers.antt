@@ -1,4 +1,4 @@
-use Rattle.std.proofs.Common.{◌≡◌, ◌∙◌, inl, inr, refl, sym, ap}
+use Rattle.std.proofs.Common.{◌∙◌, inl, inr, refl, sym}
 use Rattle.node_threads.proofs.Faults.{rose_after}
 use Rattle.node_run.specs.Members.{Run}
 use Rattle.node_run.specs.declared.status.NodeStatus.TheVariants as ends

@@ -1,4 +1,4 @@
-use Rattle.std.proofs.Common.{◌≡◌, ◌∙◌, inl, refl, sym, ap, arith}
+use Rattle.std.proofs.Common.{◌∙◌, inl, refl, sym, ap, arith}
 use Rattle.store_laws.specs.States.{StoreState}
 use Rattle.durable_store.specs.Disks.{contents}
 use Rattle.node_threads.proofs.Faults.{disk_rose_after, fell_after}

@@ -1,4 +1,4 @@
-use Rattle.std.proofs.Common.{◌≡◌, ◌∙◌, inl, inr, ℕ, length, Err, refl, sym, ap, subst}
+use Rattle.std.proofs.Common.{◌∙◌, inl, ℕ, length, Err, refl, sym, ap, subst}
 use Rattle.node_rules.specs.declared.node.Parts.{Parts}
 use Rattle.member_opening.specs.declared.fault.RestoreFault.{RestoreFault}
 use Rattle.member_opening.specs.Restorings.{KeepsCounts}

@@ -1,4 +1,4 @@
-use Rattle.std.proofs.Common.{◌≡◌, ◌∙◌, inl, refl, sym}
+use Rattle.std.proofs.Common.{◌∙◌, inl, refl, sym}
 use Rattle.durable_store.specs.Disks.{contents}
 use Rattle.member_opening.specs.Devices.{images_at}
 use Rattle.node_threads.proofs.Faults.{rose_after}
