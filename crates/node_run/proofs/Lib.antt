@@ -1,3 +1,6 @@
 pub mod Beginning
 pub mod Causes
+pub mod Closing
 pub mod Living
+pub mod Refused
+pub mod Running

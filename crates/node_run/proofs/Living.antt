@@ -83,9 +83,10 @@ module _ {S : Type 0} (life : Life S) (i0 i1 : Intake) (o0 o1 : Outlet) (trail :
     all_text = all-text;
   }
 
-  pub cut-off : (frame : ℕ) → frame ≡ min (i1.count + 1) (2 ^ 64 - 1) → is-cut-off life.left_after i1 → IsCutOff lived frame
+  pub cut-off : cut ≡ false → (frame : ℕ) → frame ≡ min (i1.count + 1) (2 ^ 64 - 1) → is-cut-off life.left_after i1 → IsCutOff lived frame
   unfolding lived
-  cut-off frame number off = record {
+  cut-off uncut frame number off = record {
+    none_lost = reads.none uncut;
     number =
         let none-ready : length (taken.given ++ i1.frames.ready) ≡ length taken.given = ap (λ (l : List (List ℕ)). length (taken.given ++ l)) off.1.0 ∙ ap length (append-nil taken.given) in
         let count = taken.count_is in

@@ -71,6 +71,7 @@ module _ {S : Type 0} where
 
   -- A life whose input has no whole frame of this number: it is too long, or the input ended within it.
   pub record IsCutOff {life : Life S} (l : Lived life) (frame : ℕ) : Type 0 where
+    pub none_lost : l.lost ≡ []
     pub number : frame ≡ min (length l.frames + 1) (2 ^ 64 - 1)
     pub cut_off : (is_some (too_long l.rest) ≡ true) ⊎ (IsAtEnd life.left_after × (0 < length l.rest))
 

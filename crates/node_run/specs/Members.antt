@@ -32,6 +32,9 @@ pub record Run (S : Type 0) : Type 1 where
   -- what was written to the output
   pub written_before : Option (List ℕ)
   pub written_after : Option (List ℕ)
+  -- the sinks of trails, and what each tells of its text
+  pub sink : Type 0
+  pub text_of : sink → Option (List ℕ)
   -- the texts of trails that are kept after it
   pub trails_after : Address → Option (List ℕ)
 
@@ -40,10 +43,11 @@ module _ {S D : Type 0} where
   pub record LifeOver (r : Run S) (opening : Node S) (head : TrailOpening) (entries : List (List ℕ)) (disks : Disks D) (status : NodeStatus) : Type 0 where
     pub store : Store D
     pub left : disks ≡ store.disks
-    pub begun : Option (List ℕ)
-    pub empty : IsEmpty begun
-    pub told : Option (List ℕ)
-    pub trail : IfSome told (λ text. r.trails_after (address r.settings.dir r.settings.member 0) ≡ Some text)
+    -- the sink of its trail before the life, and after it
+    pub begun : r.sink
+    pub empty : IsEmpty (r.text_of begun)
+    pub told : r.sink
+    pub trail : IfSome (r.text_of told) (λ text. r.trails_after (address r.settings.dir r.settings.member 0) ≡ Some text)
     pub life : LifeEnd (record {
       meaning = r.meaning;
       opening = opening;
@@ -53,8 +57,8 @@ module _ {S D : Type 0} where
       left_after = r.left_after;
       written_before = r.written_before;
       written_after = r.written_after;
-      told_before = begun;
-      told_after = told;
+      told_before = r.text_of begun;
+      told_after = r.text_of told;
       firm = store.plan.firm;
     }) status
 

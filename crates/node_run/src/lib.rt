@@ -4,5 +4,6 @@
 
 pub mod life;
 pub mod member;
+pub mod naming;
 pub mod status;
 pub mod wires;

@@ -13,6 +13,7 @@ ghost use Rattle.node_run.specs.Statuses.{all_went, status_of};
 ghost use Rattle.node_run.specs.Opened.{IsOpened};
 ghost use Rattle.node_run.specs.Wires.{AreFresh};
 
+use crate::naming::{Named, PlaceOf};
 use crate::status::{NodeStatus, status_of, trail_status};
 use crate::wires::Wires;
 use check_worker::worker::CheckWorker;
@@ -183,7 +184,7 @@ fn run_seated<
 /// loops. All that bears a name is made within.
 fn run_named<
     S: Service + Send,
-    P: Place<S> + Send,
+    N: Named<S> + Send,
     O: Sink + Send,
     I: Source + Send,
     K: Clock + Send,
@@ -206,10 +207,10 @@ fn run_named<
     output: &mut W,
     gate: &G,
 ) -> Remains<D, O>
-    requires lane { (P.lane ≡ in_lane wires.lane_in) × (P.restored ≡ store.plan.restored) }
-    requires links { (P.arriving ≡ in_link wires.arriving_in) × (P.leaving ≡ in_link wires.leaving_in) }
-    requires opening { (P.opening ≡ core.node) × ((P.head ≡ head.now) × (P.entries ≡ entries.now)) }
-    requires begun { (P.begun ≡ O.written sink) × (P.failures ≡ O.faults sink) }
+    requires lane { (N.lane ≡ in_lane wires.lane_in) × (N.restored ≡ store.plan.restored) }
+    requires links { (N.arriving ≡ in_link wires.arriving_in) × (N.leaving ≡ in_link wires.leaving_in) }
+    requires opening { (N.opening S.meaning ≡ core.node) × ((N.head ≡ head.now) × (N.entries ≡ entries.now)) }
+    requires begun { (N.begun ≡ O.written sink) × (N.failures ≡ O.faults sink) }
     requires fresh { AreFresh wires }
     requires core { (core.broken ≡ false) × KeepsCounts store.plan.restored core.node }
     requires opened { IsOpened D.told D.cells store }
@@ -237,9 +238,17 @@ fn run_named<
         leaving_in,
         leaving_out,
     } = wires;
-    match seated::<S, P, O, R>(rt, alloc, core, lane_in, arriving_out, leaving_in, sink) {
+    match seated::<S, PlaceOf<S, N>, O, R>(
+        rt,
+        alloc,
+        core,
+        lane_in,
+        arriving_out,
+        leaving_in,
+        sink,
+    ) {
         Ok(seat) => {
-            let worker: LogWorker<D, P> = LogWorker::new(alloc, lane_out, store);
+            let worker: LogWorker<D, PlaceOf<S, N>> = LogWorker::new(alloc, lane_out, store);
             let checker = CheckWorker::new(alloc, last);
             run_seated(
                 rt,

@@ -42,6 +42,7 @@ struct Left<D: Disk> {
 }
 
 /// What a life needs besides its core and its store.
+#[derive(Drop)]
 struct Needs {
     head: TrailOpening,
     wires: Wires,
@@ -89,7 +90,7 @@ where
     T::Sink: Send,
     requires core { (core.broken ≡ false) × KeepsCounts store.plan.restored core.node }
     requires opened { IsOpened D.told D.cells store }
-    ensures ended { (images : Images) → HasNotLived (record { meaning = S.meaning; settings = settings.now; told = D.told; images = images; left_before = I.left input.old; left_after = I.left input.new; written_before = W.written output.old; written_after = W.written output.new; trails_after = T.kept trails.new }) result.status ⊎ LifeOver (record { meaning = S.meaning; settings = settings.now; told = D.told; images = images; left_before = I.left input.old; left_after = I.left input.new; written_before = W.written output.old; written_after = W.written output.new; trails_after = T.kept trails.new }) core.node (head_by S.meaning settings.now parts.now) parts.now.entries result.disks result.status }
+    ensures ended { (images : Images) → HasNotLived (record { meaning = S.meaning; settings = settings.now; told = D.told; images = images; left_before = I.left input.old; left_after = I.left input.new; written_before = W.written output.old; written_after = W.written output.new; sink = T.Sink; text_of = T.Sink.written; trails_after = T.kept trails.new }) result.status ⊎ LifeOver (record { meaning = S.meaning; settings = settings.now; told = D.told; images = images; left_before = I.left input.old; left_after = I.left input.new; written_before = W.written output.old; written_after = W.written output.new; sink = T.Sink; text_of = T.Sink.written; trails_after = T.kept trails.new }) core.node (head_by S.meaning settings.now parts.now) parts.now.entries result.disks result.status }
     ensures refused { (entry : ℕ) → result.status ≡ NodeStatus.Store entry → ⊥ }
     ensures read { result.status ≡ NodeStatus.ReadFault → Rose (I.faults input.old) (I.faults input.new) }
     ensures write { result.status ≡ NodeStatus.WriteFault → Rose (W.faults output.old) (W.faults output.new) }
@@ -97,17 +98,15 @@ where
     ensures disk { result.status ≡ NodeStatus.DiskFault → DiskRose D.faults store.disks result.disks }
     ensures later { NoneFell D.faults store.disks result.disks }
 {
-    let Ok(Needs { head, wires }) = needs_of::<S>(alloc, settings, parts) else {
+    let Ok(needs) = needs_of::<S>(alloc, settings, parts) else {
         return Left {
             disks: store.into_disks(),
             status: NodeStatus::NoMemory,
         };
     };
-    match trails.get(alloc, settings.dir.as_slice(), settings.member) {
-        Err(fault) => Left {
-            disks: store.into_disks(),
-            status: trail_status(fault),
-        },
+    let Needs { head, wires } = needs;
+    let dir = settings.dir.as_slice();
+    match trails.get(alloc, dir, settings.member) {
         Ok(sink) => {
             let Remains {
                 store,
@@ -128,12 +127,16 @@ where
                 output,
                 gate,
             );
-            trails.keep(settings.dir.as_slice(), settings.member, sink);
+            trails.keep(dir, settings.member, sink);
             Left {
                 disks: store.into_disks(),
                 status,
             }
         }
+        Err(fault) => Left {
+            disks: store.into_disks(),
+            status: trail_status(fault),
+        },
     }
 }
 
@@ -163,7 +166,7 @@ where
     T::Sink: Send,
     requires restored { store.plan.restored ≡ length kept.entries }
     requires opened { IsOpened D.told D.cells store }
-    ensures ended { (images : Images) → (D.told → kept ≡ restores images) → RunOver (record { meaning = S.meaning; settings = settings.now; told = D.told; images = images; left_before = I.left input.old; left_after = I.left input.new; written_before = W.written output.old; written_after = W.written output.new; trails_after = T.kept trails.new }) result.disks result.status }
+    ensures ended { (images : Images) → (D.told → kept ≡ restores images) → RunOver (record { meaning = S.meaning; settings = settings.now; told = D.told; images = images; left_before = I.left input.old; left_after = I.left input.new; written_before = W.written output.old; written_after = W.written output.new; sink = T.Sink; text_of = T.Sink.written; trails_after = T.kept trails.new }) result.disks result.status }
     ensures read { result.status ≡ NodeStatus.ReadFault → Rose (I.faults input.old) (I.faults input.new) }
     ensures write { result.status ≡ NodeStatus.WriteFault → Rose (W.faults output.old) (W.faults output.new) }
     ensures trail { result.status ≡ NodeStatus.TrailFault → Rose (T.faults trails.old) (T.faults trails.new) }
@@ -206,7 +209,7 @@ fn over_disks<
 where
     T::Sink: Send,
     requires { D.told → AreSettled D.cells disks }
-    ensures ended { RunOver (record { meaning = S.meaning; settings = settings.now; told = D.told; images = contents D.cells disks; left_before = I.left input.old; left_after = I.left input.new; written_before = W.written output.old; written_after = W.written output.new; trails_after = T.kept trails.new }) result.disks result.status }
+    ensures ended { RunOver (record { meaning = S.meaning; settings = settings.now; told = D.told; images = contents D.cells disks; left_before = I.left input.old; left_after = I.left input.new; written_before = W.written output.old; written_after = W.written output.new; sink = T.Sink; text_of = T.Sink.written; trails_after = T.kept trails.new }) result.disks result.status }
     ensures read { result.status ≡ NodeStatus.ReadFault → Rose (I.faults input.old) (I.faults input.new) }
     ensures write { result.status ≡ NodeStatus.WriteFault → Rose (W.faults output.old) (W.faults output.new) }
     ensures trail { result.status ≡ NodeStatus.TrailFault → Rose (T.faults trails.old) (T.faults trails.new) }
@@ -214,9 +217,13 @@ where
     ensures later { NoneFell D.faults disks result.disks }
 {
     match reopen(alloc, disks) {
-        Ok((store, kept)) => over_store::<S, D, T, I, W, K, G, R>(
-            rt, alloc, settings, store, kept, input, output, clock, trails, gate,
-        ),
+        Ok((store, kept)) => {
+            // That there are fewer than 2^63 of them is known of the list.
+            let _restored = kept.entries.len();
+            over_store::<S, D, T, I, W, K, G, R>(
+                rt, alloc, settings, store, kept, input, output, clock, trails, gate,
+            )
+        }
         Err((fault, disks)) => Left {
             disks,
             status: store_status(fault),
@@ -253,7 +260,7 @@ pub fn run_member<
 where
     M::Disk: Send,
     T::Sink: Send,
-    ensures ended { RunEnd (record { meaning = S.meaning; settings = settings.now; told = M.Disk.told; images = images_at (M.cells room.old) settings.now.dir settings.now.member; left_before = I.left input.old; left_after = I.left input.new; written_before = W.written output.old; written_after = W.written output.new; trails_after = T.kept trails.new }) M.Disk.cells (M.cells room.new) result }
+    ensures ended { RunEnd (record { meaning = S.meaning; settings = settings.now; told = M.Disk.told; images = images_at (M.cells room.old) settings.now.dir settings.now.member; left_before = I.left input.old; left_after = I.left input.new; written_before = W.written output.old; written_after = W.written output.new; sink = T.Sink; text_of = T.Sink.written; trails_after = T.kept trails.new }) M.Disk.cells (M.cells room.new) result }
     ensures read { result ≡ NodeStatus.ReadFault → Rose (I.faults input.old) (I.faults input.new) }
     ensures write { result ≡ NodeStatus.WriteFault → Rose (W.faults output.old) (W.faults output.new) }
     ensures trail { result ≡ NodeStatus.TrailFault → Rose (T.faults trails.old) (T.faults trails.new) }

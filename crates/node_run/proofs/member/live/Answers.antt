@@ -1,0 +1,81 @@
+use Rattle.std.proofs.Common.{◌∙◌, inl, inr, refl, sym}
+use Rattle.node_threads.proofs.Faults.{rose_after}
+use Rattle.node_run.specs.Members.{Run}
+use Rattle.node_run.specs.declared.status.NodeStatus.TheVariants as ends
+use Rattle.node_run.proofs.Closing.{not-stored}
+use Rattle.node_run.proofs.Refused.{for-trail, none-fell, trail-else, trail-failed}
+use Rattle.node_run.proofs.member.live.Goals as goal
+
+-- ---- no memory for the head or for the wires
+
+pub returns-in_default-clause-ended : goal.returns-in_default-clause-ended
+returns-in_default-clause-ended g c = λ images. inl (record { why = tt; unread = refl; unwritten = refl })
+
+pub returns-in_default-clause-later : goal.returns-in_default-clause-later
+returns-in_default-clause-later g c = none-fell g.D.Disk.faults c.args.store.disks c.into_disks.result c.into_disks.ensures
+
+-- ---- no sink for the trail
+
+pub returns-in-Err-clause-ended : goal.returns-in-Err-clause-ended
+returns-in-Err-clause-ended g c = λ images.
+    let r : Run g.row.S.Denot =
+    record {
+      meaning = g.S.Service.meaning;
+      settings = c.args.settings.now;
+      told = g.D.Disk.told;
+      images = images;
+      left_before = g.I.Source.left c.args.input.now;
+      left_after = g.I.Source.left c.args.input.now;
+      written_before = g.W.Sink.written c.args.output.now;
+      written_after = g.W.Sink.written c.args.output.now;
+      sink = g.row.T-Sink.Denot;
+      text_of = g.T.Sink.Sink.written;
+      trails_after = g.T.TrailRoom.kept c.get.new.self;
+    } in
+    inl (for-trail r c.trail_status.result refl refl c.in-Err.fault c.trail_status.ensures)
+
+pub returns-in-Err-clause-refused : goal.returns-in-Err-clause-refused
+returns-in-Err-clause-refused g c entry e = trail-else c.in-Err.fault (ends.Store entry) (λ e. cc) (λ e. cc) (sym c.trail_status.ensures ∙ e)
+
+pub returns-in-Err-clause-read : goal.returns-in-Err-clause-read
+returns-in-Err-clause-read g c e = absurd (trail-else c.in-Err.fault ends.ReadFault (λ e. cc) (λ e. cc) (sym c.trail_status.ensures ∙ e))
+
+pub returns-in-Err-clause-write : goal.returns-in-Err-clause-write
+returns-in-Err-clause-write g c e = absurd (trail-else c.in-Err.fault ends.WriteFault (λ e. cc) (λ e. cc) (sym c.trail_status.ensures ∙ e))
+
+pub returns-in-Err-clause-trail : goal.returns-in-Err-clause-trail
+returns-in-Err-clause-trail g c e = trail-failed _ _ c.in-Err.fault c.in-Err.ensures.cause (sym c.trail_status.ensures ∙ e)
+
+pub returns-in-Err-clause-disk : goal.returns-in-Err-clause-disk
+returns-in-Err-clause-disk g c e = absurd (trail-else c.in-Err.fault ends.DiskFault (λ e. cc) (λ e. cc) (sym c.trail_status.ensures ∙ e))
+
+pub returns-in-Err-clause-later : goal.returns-in-Err-clause-later
+returns-in-Err-clause-later g c = none-fell g.D.Disk.faults c.args.store.disks c.into_disks-in-Err.result c.into_disks-in-Err.ensures
+
+-- ---- a life
+
+pub returns-in-Ok-get-clause-ended : goal.returns-in-Ok-get-clause-ended
+returns-in-Ok-get-clause-ended g c = λ images.
+    inr
+    (record {
+      store = c.run_life-store.result.store;
+      left = c.into_disks-in-Ok-get.ensures;
+      begun = c.in-Ok-get.sink;
+      empty = c.in-Ok-get.ensures.empty;
+      told = c.run_life-store.result.sink;
+      trail = rw c.as_slice-dir.ensures at c.keep.ensures.text;
+      life = rw (c.in-Ok.ensures.head, c.as_slice.ensures) at c.run_life-store.ensures.ended;
+    })
+
+pub returns-in-Ok-get-clause-refused : goal.returns-in-Ok-get-clause-refused
+returns-in-Ok-get-clause-refused g c entry e = not-stored _ _ entry c.run_life-store.ensures.ended e
+
+pub returns-in-Ok-get-clause-trail : goal.returns-in-Ok-get-clause-trail
+returns-in-Ok-get-clause-trail g c e =
+    rose_after _ _ _ c.in-Ok-get.ensures.cause.later (c.keep.ensures.rose (g.T.Sink.Sink.faults c.in-Ok-get.sink) c.in-Ok-get.ensures.taken (c.run_life-store.ensures.trail e))
+
+pub returns-in-Ok-get-clause-disk : goal.returns-in-Ok-get-clause-disk
+returns-in-Ok-get-clause-disk g c = rw (← c.into_disks-in-Ok-get.ensures) at c.run_life-store.ensures.disk
+
+pub returns-in-Ok-get-clause-later : goal.returns-in-Ok-get-clause-later
+returns-in-Ok-get-clause-later g c = rw (← c.into_disks-in-Ok-get.ensures) at c.run_life-store.ensures.later

@@ -1,0 +1,72 @@
+use Rattle.std.proofs.Common.{◌∙◌, inl, ℕ, length, Err, refl, sym, ap, subst}
+use Rattle.node_rules.specs.declared.node.Parts.{Parts}
+use Rattle.member_opening.specs.declared.fault.RestoreFault.{RestoreFault}
+use Rattle.member_opening.specs.Restorings.{KeepsCounts}
+use Rattle.node_run.specs.Members.{Run}
+use Rattle.node_run.specs.declared.status.NodeStatus.TheVariants as ends
+use Rattle.node_run.proofs.Refused.{for-restored, none-fell, restore-else}
+use Rattle.node_run.proofs.Running.{is-refused, run-over}
+use Rattle.node_run.proofs.member.over_store.Goals as goal
+
+-- ---- a life over what was restored
+
+pub live-requires-clause-core : goal.live-requires-clause-core
+live-requires-clause-core g c = λ _ _. (
+  c.in-Ok.ensures.broken,
+  subst (λ (k : ℕ). KeepsCounts k c.in-Ok.core.node) (ap (λ (p : Parts). length p.entries) c.parts_in-parts.ensures ∙ sym c.requires.restored) c.in-Ok.ensures.counts,
+)
+
+pub returns-in-Ok-clause-ended : goal.returns-in-Ok-clause-ended
+returns-in-Ok-clause-ended g c = λ images restored.
+    let r : Run g.row.S.Denot =
+    record {
+      meaning = g.S.Service.meaning;
+      settings = c.args.settings.now;
+      told = g.D.Disk.told;
+      images = images;
+      left_before = g.I.Source.left c.args.input.now;
+      left_after = g.I.Source.left c.live.new.input;
+      written_before = g.W.Sink.written c.args.output.now;
+      written_after = g.W.Sink.written c.live.new.output;
+      sink = g.row.T-Sink.Denot;
+      text_of = g.T.Sink.Sink.written;
+      trails_after = g.T.TrailRoom.kept c.live.new.trails;
+    } in
+    run-over r c.args.kept restored c.parts_in-parts.result c.parts_in-parts.ensures c.in-Ok.core.node c.live.result.disks c.live.result.status c.in-Ok.ensures.whole c.in-Ok.ensures.node (c.live.ensures.ended images)
+
+-- ---- an entry has no meaning, or there is no memory
+
+pub returns-clause-ended : goal.returns-clause-ended
+returns-clause-ended g c = λ images restored.
+    let r : Run g.row.S.Denot =
+    record {
+      meaning = g.S.Service.meaning;
+      settings = c.args.settings.now;
+      told = g.D.Disk.told;
+      images = images;
+      left_before = g.I.Source.left c.args.input.now;
+      left_after = g.I.Source.left c.args.input.now;
+      written_before = g.W.Sink.written c.args.output.now;
+      written_after = g.W.Sink.written c.args.output.now;
+      sink = g.row.T-Sink.Denot;
+      text_of = g.T.Sink.Sink.written;
+      trails_after = g.T.TrailRoom.kept c.args.trails.now;
+    } in
+    inl
+    (for-restored r c.restore_status.result refl refl c.in-Err.fault
+    (λ entry is. is-refused r c.args.kept restored c.parts_in-parts.result c.parts_in-parts.ensures entry (c.in-Err.ensures.cause entry (ap (λ (f : RestoreFault). Err f) is))) c.restore_status.ensures)
+
+pub returns-clause-read : goal.returns-clause-read
+returns-clause-read g c e = absurd (restore-else c.in-Err.fault ends.ReadFault (λ n e. cc) (λ e. cc) (sym c.restore_status.ensures ∙ e))
+
+pub returns-clause-write : goal.returns-clause-write
+returns-clause-write g c e = absurd (restore-else c.in-Err.fault ends.WriteFault (λ n e. cc) (λ e. cc) (sym c.restore_status.ensures ∙ e))
+
+pub returns-clause-trail : goal.returns-clause-trail
+returns-clause-trail g c e = absurd (restore-else c.in-Err.fault ends.TrailFault (λ n e. cc) (λ e. cc) (sym c.restore_status.ensures ∙ e))
+
+pub returns-clause-disk : goal.returns-clause-disk
+returns-clause-disk g c e = absurd (restore-else c.in-Err.fault ends.DiskFault (λ n e. cc) (λ e. cc) (sym c.restore_status.ensures ∙ e))
+
+pub returns-clause-later : goal.returns-clause-later
+returns-clause-later g c = none-fell g.D.Disk.faults c.args.store.disks c.into_disks.result c.into_disks.ensures

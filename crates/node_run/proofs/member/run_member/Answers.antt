@@ -1,0 +1,68 @@
+use Rattle.std.proofs.Common.{◌∙◌, inl, refl, sym}
+use Rattle.durable_store.specs.Disks.{contents}
+use Rattle.member_opening.specs.Devices.{images_at}
+use Rattle.node_threads.proofs.Faults.{rose_after}
+use Rattle.node_run.specs.Members.{Run}
+use Rattle.node_run.specs.declared.status.NodeStatus.TheVariants as ends
+use Rattle.node_run.proofs.Refused.{for-room, room-else, room-failed}
+use Rattle.node_run.proofs.Running.{held-still, run-end}
+use Rattle.node_run.proofs.member.run_member.Goals as goal
+
+pub put_back-requires : goal.put_back-requires
+put_back-requires g c = held-still _ _ _ _ _ _ c.in-Ok.ensures.held c.over_disks-disks.ensures.later
+
+-- ---- a run over devices that were taken
+
+pub returns-in-Ok-clause-ended : goal.returns-in-Ok-clause-ended
+returns-in-Ok-clause-ended g c =
+    let r : Run g.row.S.Denot =
+    record {
+      meaning = g.S.Service.meaning;
+      settings = c.args.settings.now;
+      told = g.M.Disk.Disk.told;
+      images = contents g.M.Disk.Disk.cells c.in-Ok.disks;
+      left_before = g.I.Source.left c.args.input.now;
+      left_after = g.I.Source.left c.over_disks-disks.new.input;
+      written_before = g.W.Sink.written c.args.output.now;
+      written_after = g.W.Sink.written c.over_disks-disks.new.output;
+      sink = g.row.T-Sink.Denot;
+      text_of = g.T.Sink.Sink.written;
+      trails_after = g.T.TrailRoom.kept c.over_disks-disks.new.trails;
+    } in
+    run-end r (images_at (g.M.DiskRoom.cells c.args.room.now) c.args.settings.now.dir c.args.settings.now.member) (rw c.as_slice-dir.ensures at c.in-Ok.ensures.contents) c.over_disks-disks.result.disks c.over_disks-disks.result.status
+    g.M.Disk.Disk.cells (g.M.DiskRoom.cells c.put_back.new.room) (rw c.as_slice-dir.ensures at c.put_back.ensures.contents) c.over_disks-disks.ensures.ended
+
+pub returns-in-Ok-clause-disk : goal.returns-in-Ok-clause-disk
+returns-in-Ok-clause-disk g c e = rose_after _ _ _ c.in-Ok.ensures.cause.later (c.put_back.ensures.rose c.in-Ok.disks c.in-Ok.ensures.held (c.over_disks-disks.ensures.disk e))
+
+-- ---- devices that could not be taken
+
+pub returns-in-Err-clause-ended : goal.returns-in-Err-clause-ended
+returns-in-Err-clause-ended g c =
+    let r : Run g.row.S.Denot =
+    record {
+      meaning = g.S.Service.meaning;
+      settings = c.args.settings.now;
+      told = g.M.Disk.Disk.told;
+      images = images_at (g.M.DiskRoom.cells c.args.room.now) c.args.settings.now.dir c.args.settings.now.member;
+      left_before = g.I.Source.left c.args.input.now;
+      left_after = g.I.Source.left c.args.input.now;
+      written_before = g.W.Sink.written c.args.output.now;
+      written_after = g.W.Sink.written c.args.output.now;
+      sink = g.row.T-Sink.Denot;
+      text_of = g.T.Sink.Sink.written;
+      trails_after = g.T.TrailRoom.kept c.args.trails.now;
+    } in
+    inl (for-room r c.room_status.result refl refl c.in-Err.fault c.room_status.ensures)
+
+pub returns-in-Err-clause-read : goal.returns-in-Err-clause-read
+returns-in-Err-clause-read g c e = absurd (room-else c.in-Err.fault ends.ReadFault (λ e. cc) (λ e. cc) (sym c.room_status.ensures ∙ e))
+
+pub returns-in-Err-clause-write : goal.returns-in-Err-clause-write
+returns-in-Err-clause-write g c e = absurd (room-else c.in-Err.fault ends.WriteFault (λ e. cc) (λ e. cc) (sym c.room_status.ensures ∙ e))
+
+pub returns-in-Err-clause-trail : goal.returns-in-Err-clause-trail
+returns-in-Err-clause-trail g c e = absurd (room-else c.in-Err.fault ends.TrailFault (λ e. cc) (λ e. cc) (sym c.room_status.ensures ∙ e))
+
+pub returns-in-Err-clause-disk : goal.returns-in-Err-clause-disk
+returns-in-Err-clause-disk g c e = room-failed _ _ c.in-Err.fault c.in-Err.ensures.cause (sym c.room_status.ensures ∙ e)
