@@ -23,6 +23,14 @@ gave_up (Form n) = true
 gave_up Failed = true
 gave_up NoMemory = true
 
+-- whether bytes that a loop read may be lost: it was told to end, failed or wanted memory
+abbrev pub loses : LoopEnd → Bool
+loses Done = false
+loses Over = true
+loses (Form n) = false
+loses Failed = true
+loses NoMemory = true
+
 -- A loop that works on a store fails only for a device whose count of failures rose.
 pub record FailsByDisk {D : Type 0} (end : LoopEnd) (counts : D → ℕ) (old new : Disks D) : Type 0 where
   pub rose : end ≡ Failed → DiskRose counts old new

@@ -1,7 +1,7 @@
 //! Why the loops of a node ended.
-ghost use Rattle.std.specs.Prelude.{◌≡◌, ℕ, Bool, true, not, Some};
+ghost use Rattle.std.specs.Prelude.{◌≡◌, ℕ, Bool, true, Some};
 ghost use Rattle.node_ends.specs.Intakes.{is_early};
-ghost use Rattle.node_threads.specs.Loops.{is_done, gave_up};
+ghost use Rattle.node_threads.specs.Loops.{gave_up, loses};
 
 use node_ends::intake::InputEnd;
 use node_ends::outlet::OutputEnd;
@@ -36,7 +36,7 @@ pub struct Ends {
 /// Why the loop ended that reads the input. `None`: it was told to.
 pub(crate) fn end_of_input(end: Option<InputEnd>) -> LoopEnd
     ensures done { result ≡ LoopEnd.Done → end ≡ Some InputEnd.Whole }
-    ensures early { not (is_done result) ≡ is_early end }
+    ensures early { loses result ≡ is_early end }
     ensures form { (frame : ℕ) → result ≡ LoopEnd.Form frame → end ≡ Some (InputEnd.Form frame) }
     ensures failed { result ≡ LoopEnd.Failed → end ≡ Some InputEnd.Failed }
 {

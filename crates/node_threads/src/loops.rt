@@ -10,7 +10,7 @@ ghost use Rattle.group_links.specs.Link.{in_link, out_link, link_taken, link_hea
 ghost use Rattle.queue_ends.specs.Rule.{IsFront};
 ghost use Rattle.node_ends.specs.Intakes.{Reads, IsDone};
 ghost use Rattle.node_ends.specs.Outlets.{Writes};
-ghost use Rattle.node_threads.specs.Loops.{is_done, gave_up, FailsByDisk, EndsByForm};
+ghost use Rattle.node_threads.specs.Loops.{gave_up, loses, FailsByDisk, EndsByForm};
 
 use crate::cell::CellOf;
 use crate::ending::{LoopEnd, end_of_input, end_of_output, end_of_work};
@@ -47,7 +47,7 @@ pub fn receive_loop<S: Service, P: Place<S>, O: Sink, I: Source, G: Gate, R: Wai
     intake: &mut Intake,
 ) -> LoopEnd
     ensures link { in_link intake.new.link ≡ in_link intake.old.link }
-    ensures reads { Reads (I.left input.old) (I.left input.new) (not (is_done result)) intake.old intake.new }
+    ensures reads { Reads (I.left input.old) (I.left input.new) (loses result) intake.old intake.new }
     ensures whole { result ≡ LoopEnd.Done → IsAtEnd (I.left input.new) × IsDone intake.new }
     ensures form { EndsByForm result (I.left input.new) intake.new }
     ensures cause { result ≡ LoopEnd.Failed → Rose (I.faults input.old) (I.faults input.new) }

@@ -10,7 +10,7 @@ ghost use Rattle.group_links.specs.Link.{in_link, out_link, link_taken, link_hea
 ghost use Rattle.queue_ends.specs.Rule.{IsFront};
 ghost use Rattle.node_ends.specs.Intakes.{Reads, IsDone, IsCutOff};
 ghost use Rattle.node_ends.specs.Outlets.{Writes};
-ghost use Rattle.node_threads.specs.Loops.{is_done, gave_up, FailsByDisk};
+ghost use Rattle.node_threads.specs.Loops.{gave_up, loses, FailsByDisk};
 
 use crate::ending::{Ends, LoopEnd};
 use crate::loops::{check_loop, deliver_loop, log_loop, receive_loop, send_loop};
@@ -212,7 +212,7 @@ pub fn run_loops<
     requires whole { worker.old.faulty ≡ false }
     requires sound { D.told → Stands (state_of D.cells worker.old.store) }
     ensures links { (in_link intake.new.link ≡ in_link intake.old.link) × (out_link outlet.new.link ≡ out_link outlet.old.link) }
-    ensures reads { Reads (I.left input.old) (I.left input.new) (not (is_done result.received)) intake.old intake.new }
+    ensures reads { Reads (I.left input.old) (I.left input.new) (loses result.received) intake.old intake.new }
     ensures whole { result.received ≡ LoopEnd.Done → IsAtEnd (I.left input.new) × IsDone intake.new }
     ensures form { (frame : ℕ) → result.received ≡ LoopEnd.Form frame → (frame ≡ min (intake.new.count + 1) (2 ^ 64 - 1)) × IsCutOff (I.left input.new) intake.new }
     ensures received { result.received ≡ LoopEnd.Failed → Rose (I.faults input.old) (I.faults input.new) }
