@@ -1,9 +1,12 @@
 -- How a run of `audit` ends.
-use Rattle.std.proofs.Common.{◌≡◌, ◌∙◌, ℕ, List, Option, refl, inl}
+use Rattle.std.proofs.Common.{◌≡◌, ◌∙◌, ap, ℕ, List, Option, refl, subst, sym, inl}
+use Rattle.script_play.specs.declared.status.Status.{Status}
 use Rattle.script_play.specs.declared.status.Status.TheVariants as ends
 use Rattle.audit_play.specs.declared.status.AuditStatus.{AuditStatus}
 use Rattle.audit_play.specs.declared.status.AuditStatus.TheVariants as audits
-use Rattle.smart_top.specs.Audits.{status_of, AuditEnd}
+use Rattle.audit_laws.specs.Completeness.{IsOfTrails}
+use Rattle.audit_laws.proofs.Complete.{of-trails}
+use Rattle.smart_top.specs.Audits.{status_of, AuditEnd, IsTrails, IsJudged}
 use Rattle.audit_play.proofs.Consumed.{appends-nothing}
 
 -- it had no memory before it read anything
@@ -42,3 +45,22 @@ write_failed audits.WriteFault is = refl
 write_failed (audits.Limit part) is = absurd (cc)
 write_failed (audits.Differs d) is = absurd (cc)
 write_failed audits.NoMemory is = absurd (cc)
+
+-- ---- completeness
+
+judged-by : (end : AuditStatus) → IsOfTrails end → (end ≡ audits.ReadFault → ⊥) → (end ≡ audits.WriteFault → ⊥) → IsJudged (status_of end)
+judged-by audits.Coherent of read write = tt
+judged-by audits.Empty of read write = absurd of
+judged-by (audits.Form part) of read write = absurd of
+judged-by audits.ReadFault of read write = absurd (read refl)
+judged-by audits.WriteFault of read write = absurd (write refl)
+judged-by (audits.Limit part) of read write = absurd of
+judged-by (audits.Differs d) of read write = tt
+judged-by audits.NoMemory of read write = tt
+
+-- an audit of trails of which neither source nor sink fails ends with its verdict, or for want of memory
+pub audit_is_complete : (left left' written written' : Option (List ℕ)) (wants wants' : ℕ) (status : Status) → AuditEnd left left' written written' wants wants' status → IsTrails left
+    → (status ≡ ends.ReadFault → ⊥) → (status ≡ ends.WriteFault → ⊥) → IsJudged status
+audit_is_complete left left' written written' wants wants' status e input read write =
+    let of : IsOfTrails e.end = of-trails left left' written written' wants wants' input.bytes input.trails e.end input.is input.read e.ended in
+    subst IsJudged (sym e.status_is) (judged-by e.end of (λ is. read (e.status_is ∙ ap status_of is)) (λ is. write (e.status_is ∙ ap status_of is)))

@@ -1,5 +1,7 @@
 -- What a run of `audit` has read and written, by its status.
-use Rattle.std.specs.Prelude.{ℕ, ◌≡◌, List, Option}
+use Rattle.std.specs.Prelude.{ℕ, ◌≡◌, List, Option, Some}
+use Rattle.audit_rules.specs.Readings.{AreRead}
+use Rattle.audit_rules.specs.declared.recorded.Recorded.{Recorded}
 use Rattle.audit_rules.specs.declared.recorded.Found.{Found}
 use Rattle.audit_rules.specs.declared.recorded.Found.TheVariants as finds
 use Rattle.world_rules.specs.declared.line.Kind.TheVariants as kinds
@@ -31,3 +33,25 @@ pub record AuditEnd (left left' written written' : Option (List ℕ)) (wants wan
   pub end : AuditStatus
   pub status_is : status ≡ status_of end
   pub ended : Ended left left' written written' wants wants' end
+
+-- an input that tells what it holds: trails that can be read
+pub record IsTrails (left : Option (List ℕ)) : Type 0 where
+  pub bytes : List ℕ
+  pub trails : List Recorded
+  pub is : left ≡ Some bytes
+  pub read : AreRead bytes trails
+
+-- a verdict on trails, or want of memory
+abbrev pub IsJudged : Status → Type 0
+IsJudged ends.Ok = Unit {0}
+IsJudged ends.Words = ⊥
+IsJudged (ends.Script line kind) = ⊥
+IsJudged (ends.Store entry) = ⊥
+IsJudged ends.ReadFault = ⊥
+IsJudged ends.WriteFault = ⊥
+IsJudged ends.TrailFault = ⊥
+IsJudged ends.DiskFault = ⊥
+IsJudged (ends.Premise line which) = ⊥
+IsJudged (ends.Limit line) = ⊥
+IsJudged (ends.Differs kind member event) = Unit {0}
+IsJudged ends.NoMemory = Unit {0}

@@ -1,7 +1,7 @@
 //! The audit of an input, as the program ends.
 ghost use Rattle.std.specs.Prelude.{◌≡◌};
 ghost use Rattle.faults.specs.Counts.{Rose};
-ghost use Rattle.smart_top.specs.Audits.{kind_of, status_of, AuditEnd};
+ghost use Rattle.smart_top.specs.Audits.{kind_of, status_of, AuditEnd, IsTrails, IsJudged};
 
 use audit_play::play::play_audit;
 use audit_play::status::AuditStatus;
@@ -55,6 +55,7 @@ pub fn audit<I: Source, O: Sink>(alloc: Global, input: &mut I, output: &mut O) -
     ensures words { result ≡ Status.Words → ⊥ }
     ensures read { result ≡ Status.ReadFault → Rose (I.faults input.old) (I.faults input.new) }
     ensures write { result ≡ Status.WriteFault → Rose (O.faults output.old) (O.faults output.new) }
+    ensures complete { IsTrails (I.left input.old) → (Rose (I.faults input.old) (I.faults input.new) → ⊥) → (Rose (O.faults output.old) (O.faults output.new) → ⊥) → IsJudged result }
 {
     let end = play_audit(alloc, input, output);
     status_of(&end)

@@ -10,7 +10,7 @@ ghost use Rattle.smart_top.specs.Loads.{load_read, LoadEnd};
 ghost use Rattle.smart_top.specs.Nodes.{HaveMeaning, IsFrames, NodeEnd, settings_of};
 ghost use Rattle.app_kv.specs.Snapshots.{keeping};
 ghost use Rattle.member_opening.specs.Devices.{images_at};
-ghost use Rattle.smart_top.specs.Audits.{AuditEnd};
+ghost use Rattle.smart_top.specs.Audits.{AuditEnd, IsTrails, IsJudged};
 ghost use Rattle.command_words.specs.Commands.{command_of};
 ghost use Rattle.command_words.specs.declared.node_words.NodeWords.{NodeWords};
 
@@ -186,6 +186,7 @@ where
     ensures complete_node { (n : NodeWords) → command_of (map string_bytes words.now) ≡ Some (Command.Node n) → IsFrames (I.left input.old) → M.Disk.told → HaveMeaning n (images_at (M.cells room.old) n.dir n.id) → (Rose (I.faults input.old) (I.faults input.new) → ⊥) → (Rose (O.faults output.old) (O.faults output.new) → ⊥) → (Rose (T.faults trails.old) (T.faults trails.new) → ⊥) → (Rose (M.faults room.old) (M.faults room.new) → ⊥) → (result ≡ Status.Ok) ⊎ (result ≡ Status.NoMemory) }
     ensures apart { ((n : NodeWords) → command_of (map string_bytes words.now) ≡ Some (Command.Node n) → ⊥) → (room.new ≡ room.old) × ((clock.new ≡ clock.old) × (trails.new ≡ trails.old)) }
     ensures audit { command_of (map string_bytes words.now) ≡ Some Command.Audit → AuditEnd (I.left input.old) (I.left input.new) (O.written output.old) (O.written output.new) (O.wants output.old) (O.wants output.new) result }
+    ensures complete_audit { command_of (map string_bytes words.now) ≡ Some Command.Audit → IsTrails (I.left input.old) → (Rose (I.faults input.old) (I.faults input.new) → ⊥) → (Rose (O.faults output.old) (O.faults output.new) → ⊥) → IsJudged result }
     ensures read { result ≡ Status.ReadFault → Rose (I.faults input.old) (I.faults input.new) }
     ensures write { result ≡ Status.WriteFault → Rose (O.faults output.old) (O.faults output.new) }
     ensures trail { result ≡ Status.TrailFault → Rose (T.faults trails.old) (T.faults trails.new) }
@@ -276,6 +277,8 @@ where
     ensures apart { ((n : NodeWords) → command_of (map string_bytes words.now) ≡ Some (Command.Node n) → ⊥) → (room.new ≡ room.old) × ((clock.new ≡ clock.old) × (trails.new ≡ trails.old)) }
     // What `audit` has read and written, by the status: the line that tells what it finds in the trails of its whole input.
     ensures audit { command_of (map string_bytes words.now) ≡ Some Command.Audit → AuditEnd (I.left input.old) (I.left input.new) (O.written output.old) (O.written output.new) (O.wants output.old) (O.wants output.new) result }
+    // `audit` is complete: if the source tells its bytes, these are trails, and nothing fails, it ends with its verdict, or for want of memory.
+    ensures complete_audit { command_of (map string_bytes words.now) ≡ Some Command.Audit → IsTrails (I.left input.old) → (Rose (I.faults input.old) (I.faults input.new) → ⊥) → (Rose (O.faults output.old) (O.faults output.new) → ⊥) → IsJudged result }
     // A fault of input or output: its count rose.
     ensures read { result ≡ Status.ReadFault → Rose (I.faults input.old) (I.faults input.new) }
     ensures write { result ≡ Status.WriteFault → Rose (O.faults output.old) (O.faults output.new) }
