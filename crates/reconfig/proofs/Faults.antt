@@ -1,6 +1,7 @@
 -- A change is refused for its first fault.
-use Rattle.std.proofs.Common.{◌≡◌, ℕ, ◌+◌, ◌*◌, ◌^◌, ◌≤◌, ◌<◌, ◌==◌, nat_lt, Bool, true, false, List, [], ◌∷◌, length, refl, sym, ap, ◌∙◌, arith, Option, Some, None, Ok, Err, if◌then◌else◌, subst}
+use Rattle.std.proofs.Common.{◌≡◌, ℕ, ◌+◌, ◌*◌, ◌^◌, ◌≤◌, ◌<◌, ◌==◌, nat_lt, Bool, true, false, List, [], ◌∷◌, length, refl, sym, ap, ◌∙◌, arith, Option, Some, None, Result, Ok, Err, if◌then◌else◌, subst}
 use Rattle.std.proofs.lemmas.Grind.{common_steps}
+use Rattle.std.specs.Prelude.{IfErr}
 use Rattle.std.specs.List.{list_any, AllByRecursion}
 use Rattle.smart_base.specs.Lists.{Each}
 use Rattle.smart_base.specs.Views.{View, is_view}
@@ -228,3 +229,7 @@ small_number v start c w e =
   where
     small_from : (n m : ℕ) → nat_lt 1023 n ≡ false → m ≡ n → m ≤ 1023
     small_from n m is e = grind (arith, common_steps)
+
+pub caused : (v : View) (start : ℕ) (c : Change) (r : Result View ViewFault) → r ≡ applied v start c → IfErr r (λ fault. IsFirst fault v c)
+caused v start c (Ok w) e = tt
+caused v start c (Err fault) e = cause_of v start c fault (sym e)

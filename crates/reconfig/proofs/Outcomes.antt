@@ -1,5 +1,6 @@
 -- Each outcome has its cause.
-use Rattle.std.proofs.Common.{◌≡◌, ℕ, ◌+◌, ◌^◌, ◌<◌, ◌≤◌, true, List, Result, Ok, Err, refl, sym, ap, ◌∙◌, arith}
+use Rattle.std.proofs.Common.{◌≡◌, ℕ, ◌+◌, ◌^◌, ◌<◌, ◌≤◌, true, List, Result, Ok, Err, refl, sym, ap, ◌∙◌, arith, subst}
+use Rattle.std.specs.Prelude.{IfOk}
 use Rattle.smart_base.specs.Cuts.{IsBytes}
 use Rattle.smart_base.specs.Lists.{Each}
 use Rattle.smart_base.specs.Views.{View, is_view, present}
@@ -7,6 +8,7 @@ use Rattle.smart_view.specs.declared.fault.ViewFault.{ViewFault}
 use Rattle.reconfig.specs.declared.change.Change.{Change}
 use Rattle.reconfig.specs.Changes.{change_text, FitsChange, change_of}
 use Rattle.reconfig.specs.Applied.{applied}
+use Rattle.reconfig.specs.declared.outcome.Outcome.{Outcome}
 use Rattle.reconfig.specs.declared.outcome.Outcome.TheVariants.{Begins}
 use Rattle.reconfig.specs.Outcomes.{outcome_made, outcome_read, outcome_of, Cause}
 use Rattle.reconfig.proofs.Changes.{read_again, read_is, is_only, read_small}
@@ -28,6 +30,11 @@ outcome_for views op place bs = read_for views op place (change_of op) bs refl
 
 pub change_read : (views : List View) (c : Change) (place : ℕ) → FitsChange c → outcome_of views (change_text c) place ≡ outcome_made (applied (present views) (place + 1) c)
 change_read views c place fits = ap (λ r. outcome_read views r place) (read_again c fits)
+
+pub caused : {E : Type 0} (views : List View) (op : List ℕ) (place : ℕ) (r : Result Outcome E) → IsBytes op → IfOk r (λ o. o ≡ outcome_of views op place)
+    → IfOk r (λ o. Cause views op place o)
+caused views op place (Ok o) bs e = subst (λ (o : Outcome). Cause views op place o) (sym e) (outcome_for views op place bs)
+caused views op place (Err e) bs h = tt
 
 -- ---- the view that begins
 

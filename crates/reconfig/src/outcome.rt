@@ -2,7 +2,7 @@
 ghost use Rattle.std.specs.Prelude.{◌≡◌, ◌++◌, codes, IfOk};
 ghost use Rattle.std.specs.Fmt.{decimal};
 ghost use Rattle.smart_view.specs.Making.{name_of};
-ghost use Rattle.reconfig.specs.Outcomes.{outcome_of, reply_of};
+ghost use Rattle.reconfig.specs.Outcomes.{outcome_of, reply_of, Cause};
 
 use crate::apply::apply;
 use crate::codec::read_change;
@@ -35,9 +35,7 @@ impl Drop for Outcome {
     }
 }
 
-/// What an operation comes to that is executed at a place, behind some views. A view begins at the
-/// next place, with its first regency. Error: want of memory.
-pub fn execute(alloc: Global, views: &Views, op: &[u8], place: Place) -> Result<Outcome, AllocError>
+fn outcome_of(alloc: Global, views: &Views, op: &[u8], place: Place) -> Result<Outcome, AllocError>
     ensures { IfOk result (λ o. o ≡ outcome_of views.now op.now place) }
 {
     let change = match read_change(alloc, op) {
@@ -49,6 +47,15 @@ pub fn execute(alloc: Global, views: &Views, op: &[u8], place: Place) -> Result<
         Ok(view) => Ok(Outcome::Begins { view }),
         Err(fault) => Ok(Outcome::Refused { fault }),
     }
+}
+
+/// What an operation comes to that is executed at a place, behind some views. A view begins at the
+/// next place, with its first regency. Error: want of memory.
+pub fn execute(alloc: Global, views: &Views, op: &[u8], place: Place) -> Result<Outcome, AllocError>
+    ensures value { IfOk result (λ o. o ≡ outcome_of views.now op.now place) }
+    ensures cause { IfOk result (λ o. Cause views.now op.now place o) }
+{
+    outcome_of(alloc, views, op, place)
 }
 
 /// The reply that tells the number of the view that begins.

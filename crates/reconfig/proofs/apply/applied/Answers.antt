@@ -1,8 +1,5 @@
-use Rattle.std.proofs.Common.{arith}
-use Rattle.smart_base.proofs.ViewFacts.{view_parts}
+use Rattle.reconfig.proofs.Faults.{caused}
 use Rattle.reconfig.proofs.apply.applied.Goals as goal
 
-pub overflow_add-number : goal.overflow_add-number
-overflow_add-number c =
-    let small = (view_parts c.args.view.now c.members-members.ensures.view).number in
-    omega (arith, small, c.number.ensures, c.get-number.ensures)
+pub returns-clause-cause : goal.returns-clause-cause
+returns-clause-cause c = caused c.args.view.now c.args.start c.args.change c.next_view.result c.next_view.ensures
