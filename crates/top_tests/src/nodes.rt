@@ -40,7 +40,7 @@ struct Case<'a> {
 }
 
 /// A case in which nothing fails and no time passes.
-fn case<'a>(line: &'a str, bytes: &'a [u8]) -> Case<'a> {
+fn calm_case<'a>(line: &'a str, bytes: &'a [u8]) -> Case<'a> {
     Case {
         line,
         bytes,
@@ -159,7 +159,7 @@ fn a_node_without_input_opens_its_book(rt: HostRuntime) {
     let mut room = MemRoom::new(alloc);
     let mut trails = MemTrails::new(alloc, 0, 0);
     for _life in 0..2 {
-        let ended = ran(&rt, alloc, case(LONE, b""), &mut room, &mut trails);
+        let ended = ran(&rt, alloc, calm_case(LONE, b""), &mut room, &mut trails);
         assert_eq!(rt; ended.status, Status::Ok);
         assert!(rt; ended.written.is_empty());
         assert!(rt; ended.said.is_empty());
@@ -176,7 +176,7 @@ fn frames_without_meaning_to_a_node_leave_nothing(rt: HostRuntime) {
     for frames in [b"\0\0\0\0".as_slice(), b"\0\0\0\0\0\0\0\x03abc"] {
         let mut room = MemRoom::new(alloc);
         let mut trails = MemTrails::new(alloc, 0, 0);
-        let ended = ran(&rt, alloc, case(LONE, frames), &mut room, &mut trails);
+        let ended = ran(&rt, alloc, calm_case(LONE, frames), &mut room, &mut trails);
         assert_eq!(rt; ended.status, Status::Ok);
         assert!(rt; ended.written.is_empty());
     }
@@ -190,7 +190,7 @@ fn a_clock_makes_ticks(rt: HostRuntime) {
         let mut room = MemRoom::new(alloc);
         let mut trails = MemTrails::new(alloc, 0, 0);
         let frames = b"\0\0\0\x01a\0\0\0\x01b\0\0\0\x01c\0\0\0\x01d";
-        let mut timed = case(LONE, frames);
+        let mut timed = calm_case(LONE, frames);
         timed.step = step;
         let ended = ran(&rt, alloc, timed, &mut room, &mut trails);
         assert_eq!(rt; ended.status, Status::Ok);
@@ -208,7 +208,7 @@ fn what_was_played_is_restored(rt: HostRuntime) {
     for _message in 0..3 {
         let mut room = MemRoom::new(alloc);
         let mut trails = MemTrails::new(alloc, 0, 0);
-        let asked = case(LONE, frames.as_slice());
+        let asked = calm_case(LONE, frames.as_slice());
         let ended = ran(&rt, alloc, asked, &mut room, &mut trails);
         assert_eq!(rt; ended.status, Status::Ok);
         let back = returned(&rt, alloc, ended.written.as_slice());
@@ -218,11 +218,11 @@ fn what_was_played_is_restored(rt: HostRuntime) {
     }
     let mut room = MemRoom::new(alloc);
     let mut trails = MemTrails::new(alloc, 0, 0);
-    let asked = case(LONE, frames.as_slice());
+    let asked = calm_case(LONE, frames.as_slice());
     let first = ran(&rt, alloc, asked, &mut room, &mut trails);
     assert_eq!(rt; first.status, Status::Ok);
     let trail = Vec::from_slice(alloc, trail_text(&trails)).expect(&rt, "there is memory");
-    let again = ran(&rt, alloc, case(LONE, ASK), &mut room, &mut trails);
+    let again = ran(&rt, alloc, calm_case(LONE, ASK), &mut room, &mut trails);
     assert_eq!(rt; again.status, Status::Ok);
     // A reply to client 1.
     assert!(rt; again.written.as_slice().get(4..7) == Some(b"\x02\0\x01".as_slice()));
@@ -233,7 +233,7 @@ fn what_was_played_is_restored(rt: HostRuntime) {
         let audited = ran(
             &rt,
             alloc,
-            case("audit", text),
+            calm_case("audit", text),
             &mut other_room,
             &mut other_trails,
         );
@@ -256,7 +256,7 @@ fn a_frame_that_is_none_is_told(rt: HostRuntime) {
     ] {
         let mut room = MemRoom::new(alloc);
         let mut trails = MemTrails::new(alloc, 0, 0);
-        let ended = ran(&rt, alloc, case(LONE, frames), &mut room, &mut trails);
+        let ended = ran(&rt, alloc, calm_case(LONE, frames), &mut room, &mut trails);
         assert_eq!(rt; ended.status, Status::Script { line, kind });
         assert_eq!(rt; ended.status.code(), 3);
         assert_eq!(rt; ended.said.as_slice(), said.as_bytes());
@@ -269,18 +269,18 @@ fn a_store_of_another_node_is_told(rt: HostRuntime) {
     let alloc = rt.alloc();
     let mut room = MemRoom::new(alloc);
     let mut trails = MemTrails::new(alloc, 0, 0);
-    let first = ran(&rt, alloc, case(LONE, b""), &mut room, &mut trails);
+    let first = ran(&rt, alloc, calm_case(LONE, b""), &mut room, &mut trails);
     assert_eq!(rt; first.status, Status::Ok);
     for words in [
         "node --id 1 --dir d --secret 736d --group 1,0 --period 8",
         "node --id 1 --dir d --secret 736d --group 4,1",
     ] {
-        let ended = ran(&rt, alloc, case(words, b""), &mut room, &mut trails);
+        let ended = ran(&rt, alloc, calm_case(words, b""), &mut room, &mut trails);
         assert_eq!(rt; ended.status, Status::Store { entry: 1 });
         assert_eq!(rt; ended.status.code(), 3);
         assert_eq!(rt; ended.said.as_slice(), b"smart: line 1: Store\n".as_slice());
     }
-    let again = ran(&rt, alloc, case(LONE, b""), &mut room, &mut trails);
+    let again = ran(&rt, alloc, calm_case(LONE, b""), &mut room, &mut trails);
     assert_eq!(rt; again.status, Status::Ok);
 }
 
@@ -290,12 +290,12 @@ fn a_failure_around_a_node_is_told(rt: HostRuntime) {
     let alloc = rt.alloc();
     let mut room = MemRoom::new(alloc);
     let mut trails = MemTrails::new(alloc, 0, 0);
-    let mut unread = case(LONE, b"");
+    let mut unread = calm_case(LONE, b"");
     unread.read = 1;
     let ended = ran(&rt, alloc, unread, &mut room, &mut trails);
     assert_eq!(rt; ended.status, Status::ReadFault);
     assert_eq!(rt; ended.status.code(), 4);
-    let mut unwritten = case(LONE, ASK);
+    let mut unwritten = calm_case(LONE, ASK);
     unwritten.write = 1;
     let ended = ran(&rt, alloc, unwritten, &mut room, &mut trails);
     assert_eq!(rt; ended.status, Status::WriteFault);
@@ -304,7 +304,7 @@ fn a_failure_around_a_node_is_told(rt: HostRuntime) {
     for (refusals, failing) in [(1, 0), (0, 1), (0, 3)] {
         let mut room = MemRoom::new(alloc);
         let mut trails = MemTrails::new(alloc, refusals, failing);
-        let ended = ran(&rt, alloc, case(LONE, b""), &mut room, &mut trails);
+        let ended = ran(&rt, alloc, calm_case(LONE, b""), &mut room, &mut trails);
         assert_eq!(rt; ended.status, Status::TrailFault);
         assert_eq!(rt; ended.status.code(), 5);
         assert_eq!(rt; ended.said.as_slice(), b"smart: write fault\n".as_slice());
@@ -328,7 +328,7 @@ fn a_device_that_fails_is_told(rt: HostRuntime) {
             let failing = failing.expect(&rt, "there is memory");
             room.keep(b"d", member, 0, failing);
         }
-        let ended = ran(&rt, alloc, case(LONE, b""), &mut room, &mut trails);
+        let ended = ran(&rt, alloc, calm_case(LONE, b""), &mut room, &mut trails);
         assert_eq!(rt; ended.status, Status::DiskFault);
         assert_eq!(rt; ended.status.code(), 6);
         assert_eq!(rt; ended.said.as_slice(), b"smart: disk fault\n".as_slice());
