@@ -1,0 +1,144 @@
+-- Members of coherent runs decide one batch at each place, and leave no place out.
+use Rattle.std.proofs.Common.{◌≡◌, ◌⊎◌, inl, inr, ⊎_elim, ℕ, zero, suc, ◌+◌, ◌-◌, ◌<◌, ◌≤◌, ◌==◌, Bool, true, false, nat_le, cond, List, [], ◌∷◌, ◌++◌, length, refl, ap, sym, ◌∙◌, subst, arith, Option, Some, None, length-append}
+use Rattle.std.proofs.lemmas.Bool.{leb-true, leb-false}
+use Rattle.std.specs.Prelude.{map, slice_get}
+use Rattle.smart_base.specs.Lists.{Distinct, Each}
+use Rattle.smart_base.specs.Views.{View, is_member, is_view}
+use Rattle.smart_base.specs.declared.party.Party.TheVariants.{Member}
+use Rattle.smart_statements.specs.Forms.{SignedBy}
+use Rattle.smart_statements.specs.Batches.{Batch}
+use Rattle.smart_statements.specs.declared.report.Mark.{Mark}
+use Rattle.certificates.specs.Certificates.{mark_of}
+use Rattle.vote_book.specs.Books.{Among, HasMade, last_made, place_made}
+use Rattle.vote_book.specs.declared.entry.Decision.{Decision}
+use Rattle.vote_book.specs.declared.entry.Installation.{Installation}
+use Rattle.vote_book.specs.declared.entry.LogEntry.{LogEntry}
+use Rattle.vote_book.specs.declared.entry.LogEntry.TheVariants.{Opened, Wrote, Accepted, Promised, Synced, Decided, Installed, Marked}
+use Rattle.vote_book.proofs.Tested.{last_has, made_within}
+use Rattle.book_laws.proofs.CutAgain.{more_made}
+use Rattle.replica_rules.specs.Replicas.{batch_at}
+use Rattle.replica_rules.specs.Seals.{digest_of}
+use Rattle.agreement_laws.specs.Certificates.{IsBacked, IsTaken}
+use Rattle.agreement_laws.specs.Law.{Witnessed}
+use Rattle.agreement_laws.specs.Lists.{Certified}
+use Rattle.agreement_laws.specs.Statements as says
+use Rattle.agreement_laws.specs.Statements.{Statement}
+use Rattle.agreement_laws.proofs.Lists.{among_left, each_among, split_at}
+use Rattle.agreement_laws.proofs.Regencies.{decided_once}
+use Rattle.node_laws.specs.Restored.{IsSoundBook}
+use Rattle.node_laws.specs.Restoring.{AreAlong}
+use Rattle.node_laws.proofs.CertifiedBooks.{certified_book}
+use Rattle.node_laws.proofs.Reopened.{in_turn, latest_is}
+use Rattle.node_laws.proofs.Restored.{front_of}
+use Rattle.node_laws.proofs.Votes.{place_of_some}
+use Rattle.audit_rules.specs.declared.recorded.Recorded.{Recorded}
+use Rattle.audit_rules.specs.Audits.{is_client}
+use Rattle.trail_agreement.proofs.Marks.{HasDecision, IsOfDecided, MarksDecided}
+use Rattle.trail_agreement.proofs.Shown.{MayCome, all_stated, stated_shown}
+use Rattle.trail_agreement.proofs.Witnesses.{AreSound, diary_in, nobody, some_member}
+
+-- ---- the last place
+
+has_last : (secret : List ℕ) (stated : List Statement) (view : View) (es : List LogEntry) → IsSoundBook secret stated view es → 0 < last_made es → HasMade es (last_made es)
+has_last secret stated view es book some = last_has es (last_made es) (latest_is secret stated view es book ∙ place_of_some (last_made es) some)
+
+-- the place before one that is decided
+before_decided : (secret : List ℕ) (stated : List Statement) (view : View) (es : List LogEntry) (d : Decision) (place : ℕ) → IsSoundBook secret stated view es → Among (Decided d) es → d.slot.place ≡ suc place → 0 < place
+    → HasMade es place
+before_decided secret stated view es d place book there at some =
+    let s = split_at es (Decided d) there in
+    let whole : IsSoundBook secret stated view (s.before ++ Decided d ∷ s.after) = subst (λ (xs : List LogEntry). IsSoundBook secret stated view xs) s.is book in
+    let turn : d.slot.place ≡ last_made s.before + 1 = in_turn secret stated view s.before d s.after whole in
+    let last : last_made s.before ≡ place = omega (arith, turn, at) in
+    let made : HasMade s.before (last_made s.before) = has_last secret stated view s.before (front_of secret stated view s.before (Decided d ∷ s.after) whole) (omega (arith, last, some)) in
+    subst (λ (xs : List LogEntry). HasMade xs place) (sym s.is) (more_made place s.before (Decided d ∷ s.after) (subst (λ (k : ℕ). HasMade s.before k) last made))
+
+-- ---- books of several members
+
+-- a trail of a member whose book decides a place
+pub record Decider (trails : List Recorded) (book : Recorded → List LogEntry) (place : ℕ) : Type 0 where
+  pub trail : Recorded
+  pub there : Among trail trails
+  pub member : is_client trail ≡ false
+  pub decision : Decision
+  pub decided : Among (Decided decision) (book trail)
+  pub place_is : decision.slot.place ≡ place
+
+module _ (secret : List ℕ) (view : View) (trails : List Recorded) (book : Recorded → List LogEntry) (viewed : is_view view ≡ true) (may : Each (MayCome trails secret) trails)
+    (are : AreSound secret view trails book) (marks : (t : Recorded) → Among t trails → is_client t ≡ false → MarksDecided (book t)) where
+  abbrev stated : List Statement
+  stated = all_stated secret trails
+
+  -- a mark that came is of a place that its member has decided
+  mark_decided : (k : SignedBy Mark) → is_member view k.signer ≡ true → Among (says.Marked k) stated → Decider trails book k.statement.place
+  mark_decided k within there =
+      let none : (k.signer == 0) ≡ false = some_member view k.signer viewed within in
+      let shown = stated_shown secret trails k.signer (says.Marked k) book may (λ t at same. are.rests t at (ap (λ (j : ℕ). j == 0) same ∙ none)) there refl in
+      let member : is_client shown.0 ≡ false = ap (λ (j : ℕ). j == 0) shown.2 ∙ none in
+      let has : HasDecision (book shown.0) k.statement.place = each_among (IsOfDecided (book shown.0)) (book shown.0) (Marked k.statement) (marks shown.0 shown.1 member).each shown.3 in
+      record { trail = shown.0; there = shown.1; member = member; decision = has.decision; decided = has.there; place_is = has.place_is }
+
+  -- an installation has a mark
+  first_mark : (i : Installation) (ks : List (SignedBy Mark)) → 1 ≤ length ks → Each (λ (k : SignedBy Mark). is_member view k.signer ≡ true) ks
+      → Each (λ (k : SignedBy Mark). k.statement ≡ mark_of i.place i.digest) ks → Each (λ (k : SignedBy Mark). Among (says.Marked k) stated) ks → Decider trails book i.place
+  first_mark i [] some members same drawn = absurd (omega (arith, some))
+  first_mark i (k ∷ ks) some members same drawn =
+      subst (λ (place : ℕ). Decider trails book place) (ap (λ (m : Mark). m.place) same.0) (mark_decided k members.0 drawn.0)
+
+  taken_decided : (i : Installation) → IsTaken secret view stated i → Decider trails book i.place
+  taken_decided i is = let many = is.holds.1 in first_mark i i.marks (omega (arith, many)) is.holds.0.members is.holds.0.stated is.drawn
+
+  -- so each place that a member makes is decided by some member
+  entry_decided : (t : Recorded) → Among t trails → is_client t ≡ false → (e : LogEntry) (place : ℕ) → Among e (book t) → place_made e ≡ Some place → Decider trails book place
+  entry_decided t at member (Decided d) place there made = record { trail = t; there = at; member = member; decision = d; decided = there; place_is = one_place d.slot.place place made }
+    where
+      one_place : (a b : ℕ) → Some a ≡ Some b → a ≡ b
+      one_place a b same = cc
+  entry_decided t at member (Installed i) place there made =
+      let sound = are.sound t at member in
+      let s = split_at (book t) (Installed i) there in
+      let of_view = (sound.ranged s.before (Installed i) s.after s.is).of_view in
+      let taken : IsTaken secret view stated i = each_among (IsBacked secret digest_of view stated) (book t) (Installed i) sound.backed there of_view in
+      subst (λ (k : ℕ). Decider trails book k) (one_place i.place place made) (taken_decided i taken)
+    where
+      one_place : (a b : ℕ) → Some a ≡ Some b → a ≡ b
+      one_place a b same = cc
+  entry_decided t at member (Opened o) place there made = absurd (cc)
+  entry_decided t at member (Wrote w) place there made = absurd (cc)
+  entry_decided t at member (Accepted a) place there made = absurd (cc)
+  entry_decided t at member (Promised p) place there made = absurd (cc)
+  entry_decided t at member (Synced s) place there made = absurd (cc)
+  entry_decided t at member (Marked m) place there made = absurd (cc)
+
+  made_decided : (t : Recorded) → Among t trails → is_client t ≡ false → (place : ℕ) → HasMade (book t) place → Decider trails book place
+  made_decided t at member place made = entry_decided t at member made.entry place made.there made.made
+
+  -- the place before it, too
+  one_before : (place : ℕ) → 0 < place → Decider trails book (suc place) → Decider trails book place
+  one_before place some d =
+      made_decided d.trail d.there d.member place (before_decided secret stated view (book d.trail) d.decision place (are.sound d.trail d.there d.member) d.decided d.place_is some)
+
+  -- and all before
+  all_before : (more place : ℕ) → 0 < place → Decider trails book (more + place) → Decider trails book place
+  all_before zero place some d = subst (λ (k : ℕ). Decider trails book k) (omega arith) d
+  all_before (suc more) place some d = all_before more place some (one_before (more + place) (omega (arith, some)) (subst (λ (k : ℕ). Decider trails book k) (omega arith) d))
+
+  pub reached_decided : (t : Recorded) → Among t trails → is_client t ≡ false → (place : ℕ) → 0 < place → place ≤ last_made (book t) → Decider trails book place
+  reached_decided t at member place some low =
+      let last : HasMade (book t) (last_made (book t)) = has_last secret stated view (book t) (are.sound t at member) (omega (arith, some, low)) in
+      let sum : last_made (book t) ≡ (last_made (book t) - place) + place = omega (arith, low) in
+      all_before (last_made (book t) - place) place some (subst (λ (k : ℕ). Decider trails book k) sum (made_decided t at member (last_made (book t)) last))
+
+-- ---- one batch
+
+module _ (secret : List ℕ) (view : View) (trails : List Recorded) (book : Recorded → List LogEntry) (are : AreSound secret view trails book)
+    (known : Witnessed secret digest_of view nobody (diary_in book trails) (all_stated secret trails)) where
+  -- two decisions of a place have one digest
+  pub one_digest : (t u : Recorded) → Among t trails → Among u trails → is_client t ≡ false → is_client u ≡ false → (d e : Decision) → Among (Decided d) (book t) → Among (Decided e) (book u)
+      → d.slot.place ≡ e.slot.place → digest_of d.batch ≡ digest_of e.batch
+  one_digest t u at au mt mu d e td ue same =
+      let stated : List Statement = all_stated secret trails in
+      let cd : Certified secret stated view d.slot.place (digest_of d.batch) = certified_book secret stated view (book t) d (are.sound t at mt) td in
+      let ce : Certified secret stated view d.slot.place (digest_of e.batch) =
+      subst (λ (k : ℕ). Certified secret stated view k (digest_of e.batch)) (sym same) (certified_book secret stated view (book u) e (are.sound u au mu) ue) in
+      decided_once secret digest_of view nobody (diary_in book trails) stated known d.slot.place cd.regency ce.regency (digest_of d.batch) (digest_of e.batch) cd.accepts ce.accepts cd.decision ce.decision
