@@ -177,18 +177,11 @@ right-first {S = S} m stated t named viewed is none first =
     (right-reopened m stated t.opening.secret t.opening.member t.opening.view t.opening.period named viewed (entries_in t.entries) (first_entries m t is none t.entries refl first))
 
 -- nothing was delivered there
+place_by : {S : Type 0} (m : Meaning S) (o : TrailOpening) (entries : List LogEntry) → AreFirst entries → (reopened m (outset_in m o) entries).replica.place ≡ 0
+unfolding reopened
+place_by m o entries (inl none) = ap (λ (es : List LogEntry). (reopened m (outset_in m o) es).replica.place) none
+place_by m o entries (inr one) = ap (λ (es : List LogEntry). (reopened m (outset_in m o) es).replica.place) one.1
+
 pub first_place : {S : Type 0} (m : Meaning S) (t : Recorded) → t.opening.snapshot ≡ snapshot_text m (empty m t.opening.view) → damage_over m t ≡ None → IsFirstBook t.entries → (first_node m t).replica.place ≡ 0
 first_place {S = S} m t is none first =
-    ap (λ (n : Node S). n.replica.place) (first_is m t is) ∙ by (entries_in t.entries) (first_entries m t is none t.entries refl first)
-  where
-    at_none : (reopened m (outset_in m t.opening) []).replica.place ≡ 0
-    unfolding reopened
-    at_none = refl
-
-    at_one : (o : Opening) → (reopened m (outset_in m t.opening) (Opened o ∷ [])).replica.place ≡ 0
-    unfolding reopened
-    at_one o = refl
-
-    by : (entries : List LogEntry) → AreFirst entries → (reopened m (outset_in m t.opening) entries).replica.place ≡ 0
-    by entries (inl no) = ap (λ (es : List LogEntry). (reopened m (outset_in m t.opening) es).replica.place) no ∙ at_none
-    by entries (inr one) = ap (λ (es : List LogEntry). (reopened m (outset_in m t.opening) es).replica.place) one.1 ∙ at_one one.0
+    ap (λ (n : Node S). n.replica.place) (first_is m t is) ∙ place_by m t.opening (entries_in t.entries) (first_entries m t is none t.entries refl first)

@@ -7,8 +7,7 @@ use Rattle.std.specs.Option.{option_and_then}
 use Rattle.std.proofs.lemmas.Bool.{or_parts}
 use Rattle.std.proofs.lemmas.List.{map-append}
 use Rattle.smart_base.specs.Bytes.{bytes-after}
-use Rattle.smart_base.specs.Cuts.{Cut, IsBytes, Read}
-use Rattle.smart_base.specs.Fields.{anything, bytes_at}
+use Rattle.smart_base.specs.Cuts.{Cut, IsBytes, Read, anything, bytes_at}
 use Rattle.smart_base.specs.Laws.{contents_law, refit, spelled-bytes, spelled-own, text_field, wide32}
 use Rattle.smart_base.specs.Lists.{Distinct, Each}
 use Rattle.smart_base.specs.Spelling.{Law, behind, u8}
