@@ -120,8 +120,10 @@ module _ (secret : List ℕ) (view : View) (trails : List Recorded) (book : Reco
 
   -- and all before
   all_before : (more place : ℕ) → 0 < place → Decider trails book (more + place) → Decider trails book place
-  all_before zero place some d = subst (λ (k : ℕ). Decider trails book k) (omega arith) d
-  all_before (suc more) place some d = all_before more place some (one_before (more + place) (omega (arith, some)) (subst (λ (k : ℕ). Decider trails book k) (omega arith) d))
+  all_before zero place some d = let none : zero + place ≡ place = omega arith in subst (λ (k : ℕ). Decider trails book k) none d
+  all_before (suc more) place some d =
+      let sum : suc more + place ≡ suc (more + place) = omega arith in
+      all_before more place some (one_before (more + place) (omega (arith, some)) (subst (λ (k : ℕ). Decider trails book k) sum d))
 
   pub reached_decided : (t : Recorded) → Among t trails → is_client t ≡ false → (place : ℕ) → 0 < place → place ≤ last_made (book t) → Decider trails book place
   reached_decided t at member place some low =

@@ -95,7 +95,7 @@ none_lawful before entry after split = absurd (apart before split)
     apart (e ∷ es) same = cc
 
 -- a member of a view is no client
-some_member : (view : View) (member : ℕ) → is_view view ≡ true → is_member view member ≡ true → (member == 0) ≡ false
+pub some_member : (view : View) (member : ℕ) → is_view view ≡ true → is_member view member ≡ true → (member == 0) ≡ false
 some_member view member viewed within =
     let low = (each_among (λ m. (1 ≤ m) × (m ≤ 65535)) view.members member (view-names view viewed) (number_among view.members member within)).0 in
     by (member == 0) refl low
