@@ -1,14 +1,15 @@
 -- Members of coherent runs decide one batch at each place, and leave no place out.
 use Rattle.std.proofs.Common.{◌≡◌, ◌⊎◌, inl, inr, ⊎_elim, ℕ, zero, suc, ◌+◌, ◌-◌, ◌<◌, ◌≤◌, ◌==◌, Bool, true, false, nat_le, cond, List, [], ◌∷◌, ◌++◌, length, refl, ap, sym, ◌∙◌, subst, arith, Option, Some, None, length-append}
 use Rattle.std.proofs.lemmas.Bool.{leb-true, leb-false}
-use Rattle.std.specs.Prelude.{map, slice_get}
+use Rattle.std.specs.Prelude.{filter}
 use Rattle.smart_base.specs.Lists.{Distinct, Each}
 use Rattle.smart_base.specs.Views.{View, is_member, is_view}
 use Rattle.smart_base.specs.declared.party.Party.TheVariants.{Member}
 use Rattle.smart_statements.specs.Forms.{SignedBy}
 use Rattle.smart_statements.specs.Batches.{Batch}
 use Rattle.smart_statements.specs.declared.report.Mark.{Mark}
-use Rattle.certificates.specs.Certificates.{mark_of}
+use Rattle.certificates.specs.Certificates.{mark_of, signers}
+use Rattle.smart_statements.specs.Reports as kinds
 use Rattle.vote_book.specs.Books.{Among, HasMade, last_made, place_made}
 use Rattle.vote_book.specs.declared.entry.Decision.{Decision}
 use Rattle.vote_book.specs.declared.entry.Installation.{Installation}
@@ -19,12 +20,14 @@ use Rattle.book_laws.proofs.CutAgain.{more_made}
 use Rattle.replica_rules.specs.Replicas.{batch_at}
 use Rattle.replica_rules.specs.Seals.{digest_of}
 use Rattle.agreement_laws.specs.Certificates.{IsBacked, IsTaken}
-use Rattle.agreement_laws.specs.Law.{Witnessed}
+use Rattle.agreement_laws.specs.Law.{FewFaulty, Witnessed}
 use Rattle.agreement_laws.specs.Lists.{Certified}
 use Rattle.agreement_laws.specs.Statements as says
 use Rattle.agreement_laws.specs.Statements.{Statement}
-use Rattle.agreement_laws.proofs.Lists.{among_left, each_among, split_at}
+use Rattle.agreement_laws.proofs.Groups.{is_one, own, signed_listed, signers_length}
+use Rattle.agreement_laws.proofs.Lists.{each_among, split_at}
 use Rattle.agreement_laws.proofs.Regencies.{decided_once}
+use Rattle.agreement_laws.proofs.Shared.{correct_meet}
 use Rattle.node_laws.specs.Restored.{IsSoundBook}
 use Rattle.node_laws.specs.Restoring.{AreAlong}
 use Rattle.node_laws.proofs.CertifiedBooks.{certified_book}
@@ -35,7 +38,7 @@ use Rattle.audit_rules.specs.declared.recorded.Recorded.{Recorded}
 use Rattle.audit_rules.specs.Audits.{is_client}
 use Rattle.trail_agreement.proofs.Marks.{HasDecision, IsOfDecided, MarksDecided}
 use Rattle.trail_agreement.proofs.Shown.{MayCome, all_stated, stated_shown}
-use Rattle.trail_agreement.proofs.Witnesses.{AreSound, diary_in, nobody, some_member}
+use Rattle.trail_agreement.proofs.Witnesses.{AreSound, diary_in, some_member}
 
 -- ---- the last place
 
@@ -55,6 +58,13 @@ before_decided secret stated view es d place book there at some =
 
 -- ---- books of several members
 
+abbrev everybody : ℕ → Bool
+everybody member = true
+
+all-pass : (members : List ℕ) → length (filter everybody members) ≡ length members
+all-pass [] = refl
+all-pass (x ∷ xs) = ap (λ (n : ℕ). suc n) (all-pass xs)
+
 -- a trail of a member whose book decides a place
 pub record Decider (trails : List Recorded) (book : Recorded → List LogEntry) (place : ℕ) : Type 0 where
   pub trail : Recorded
@@ -64,29 +74,36 @@ pub record Decider (trails : List Recorded) (book : Recorded → List LogEntry) 
   pub decided : Among (Decided decision) (book trail)
   pub place_is : decision.slot.place ≡ place
 
-module _ (secret : List ℕ) (view : View) (trails : List Recorded) (book : Recorded → List LogEntry) (viewed : is_view view ≡ true) (may : Each (MayCome trails secret) trails)
+module _ (faulty : ℕ → Bool) (secret : List ℕ) (view : View) (trails : List Recorded) (book : Recorded → List LogEntry) (few : FewFaulty view faulty) (viewed : is_view view ≡ true)
+    (may : Each (MayCome faulty trails secret) trails)
     (are : AreSound secret view trails book) (marks : (t : Recorded) → Among t trails → is_client t ≡ false → MarksDecided (book t)) where
   abbrev stated : List Statement
   stated = all_stated secret trails
 
-  -- a mark that came is of a place that its member has decided
-  mark_decided : (k : SignedBy Mark) → is_member view k.signer ≡ true → Among (says.Marked k) stated → Decider trails book k.statement.place
-  mark_decided k within there =
+  -- a mark of a correct member that came is of a place that the member has decided
+  mark_decided : (k : SignedBy Mark) → is_member view k.signer ≡ true → faulty k.signer ≡ false → Among (says.Marked k) stated → Decider trails book k.statement.place
+  mark_decided k within correct there =
       let none : (k.signer == 0) ≡ false = some_member view k.signer viewed within in
-      let shown = stated_shown secret trails k.signer (says.Marked k) book may (λ t at same. are.rests t at (ap (λ (j : ℕ). j == 0) same ∙ none)) there refl in
+      let shown = stated_shown faulty secret trails k.signer (says.Marked k) book correct may (λ t at same. are.rests t at (ap (λ (j : ℕ). j == 0) same ∙ none)) there refl in
       let member : is_client shown.0 ≡ false = ap (λ (j : ℕ). j == 0) shown.2 ∙ none in
       let has : HasDecision (book shown.0) k.statement.place = each_among (IsOfDecided (book shown.0)) (book shown.0) (Marked k.statement) (marks shown.0 shown.1 member).each shown.3 in
       record { trail = shown.0; there = shown.1; member = member; decision = has.decision; decided = has.there; place_is = has.place_is }
 
-  -- an installation has a mark
-  first_mark : (i : Installation) (ks : List (SignedBy Mark)) → 1 ≤ length ks → Each (λ (k : SignedBy Mark). is_member view k.signer ≡ true) ks
-      → Each (λ (k : SignedBy Mark). k.statement ≡ mark_of i.place i.digest) ks → Each (λ (k : SignedBy Mark). Among (says.Marked k) stated) ks → Decider trails book i.place
-  first_mark i [] some members same drawn = absurd (omega (arith, some))
-  first_mark i (k ∷ ks) some members same drawn =
-      subst (λ (place : ℕ). Decider trails book place) (ap (λ (m : Mark). m.place) same.0) (mark_decided k members.0 drawn.0)
-
+  -- more than f marks have one of a correct member
   taken_decided : (i : Installation) → IsTaken secret view stated i → Decider trails book i.place
-  taken_decided i is = let many = is.holds.1 in first_mark i i.marks (omega (arith, many)) is.holds.0.members is.holds.0.stated is.drawn
+  taken_decided i is =
+      let wanted : Mark → Type 0 = λ m. m ≡ mark_of i.place i.digest in
+      let listed = signed_listed Mark secret kinds.marks view wanted i.marks is.holds.0 in
+      let counted = signers_length i.marks in
+      let many = is.holds.1 in
+      let room = all-pass view.members in
+      let met = correct_meet (is_one (signers i.marks)) everybody faulty view.members view.f few.few (omega (arith, listed, counted, many, room)) in
+      let mine = own i.marks met.member met.left in
+      let within : is_member view mine.item.signer ≡ true = each_among (λ (k : SignedBy Mark). is_member view k.signer ≡ true) i.marks mine.item is.holds.0.members mine.there in
+      let correct : faulty mine.item.signer ≡ false = ap faulty (sym mine.signed) ∙ met.correct in
+      let same : mine.item.statement ≡ mark_of i.place i.digest = each_among (λ (k : SignedBy Mark). wanted k.statement) i.marks mine.item is.holds.0.stated mine.there in
+      let drawn = each_among (λ (k : SignedBy Mark). Among (says.Marked k) stated) i.marks mine.item is.drawn mine.there in
+      subst (λ (place : ℕ). Decider trails book place) (ap (λ (m : Mark). m.place) same) (mark_decided mine.item within correct drawn)
 
   -- so each place that a member makes is decided by some member
   entry_decided : (t : Recorded) → Among t trails → is_client t ≡ false → (e : LogEntry) (place : ℕ) → Among e (book t) → place_made e ≡ Some place → Decider trails book place
@@ -133,8 +150,8 @@ module _ (secret : List ℕ) (view : View) (trails : List Recorded) (book : Reco
 
 -- ---- one batch
 
-module _ (secret : List ℕ) (view : View) (trails : List Recorded) (book : Recorded → List LogEntry) (are : AreSound secret view trails book)
-    (known : Witnessed secret digest_of view nobody (diary_in book trails) (all_stated secret trails)) where
+module _ (faulty : ℕ → Bool) (secret : List ℕ) (view : View) (trails : List Recorded) (book : Recorded → List LogEntry) (are : AreSound secret view trails book)
+    (known : Witnessed secret digest_of view faulty (diary_in book trails) (all_stated secret trails)) where
   -- two decisions of a place have one digest
   pub one_digest : (t u : Recorded) → Among t trails → Among u trails → is_client t ≡ false → is_client u ≡ false → (d e : Decision) → Among (Decided d) (book t) → Among (Decided e) (book u)
       → d.slot.place ≡ e.slot.place → digest_of d.batch ≡ digest_of e.batch
@@ -143,4 +160,4 @@ module _ (secret : List ℕ) (view : View) (trails : List Recorded) (book : Reco
       let cd : Certified secret stated view d.slot.place (digest_of d.batch) = certified_book secret stated view (book t) d (are.sound t at mt) td in
       let ce : Certified secret stated view d.slot.place (digest_of e.batch) =
       subst (λ (k : ℕ). Certified secret stated view k (digest_of e.batch)) (sym same) (certified_book secret stated view (book u) e (are.sound u au mu) ue) in
-      decided_once secret digest_of view nobody (diary_in book trails) stated known d.slot.place cd.regency ce.regency (digest_of d.batch) (digest_of e.batch) cd.accepts ce.accepts cd.decision ce.decision
+      decided_once secret digest_of view faulty (diary_in book trails) stated known d.slot.place cd.regency ce.regency (digest_of d.batch) (digest_of e.batch) cd.accepts ce.accepts cd.decision ce.decision

@@ -1,7 +1,9 @@
 -- The law over the service that openings name.
-use Rattle.std.proofs.Common.{◌≡◌, ℕ, false, true, List, [], ◌∷◌, ap, sym, ◌∙◌, subst, arith, None, Some, Option}
+use Rattle.std.proofs.Common.{◌≡◌, ℕ, Bool, false, true, filter, length, List, [], ◌∷◌, ap, sym, ◌∙◌, subst, arith, None, Some, Option}
 use Rattle.smart_base.specs.Lists.{Each}
 use Rattle.smart_base.specs.Views.{View, is_view}
+use Rattle.smart_base.proofs.ViewFacts.{each-weaken, view_parts}
+use Rattle.smart_messages.specs.Messages.{decoded}
 use Rattle.smart_service.specs.Services.{Meaning}
 use Rattle.snapshot_form.specs.Snapshots.{snapshot_text}
 use Rattle.app_count.specs.Counts.{counting, IsSum}
@@ -14,14 +16,17 @@ use Rattle.app_kv.specs.States.{first_store, next_store}
 use Rattle.app_kv.specs.Restored.{valid_store, restored_store, short_snapshot as short_store, one_snapshot as one_store}
 use Rattle.vote_book.specs.Books.{Among}
 use Rattle.replica_rules.specs.Replicas.{empty}
+use Rattle.agreement_laws.specs.Law.{FewFaulty}
 use Rattle.agreement_laws.proofs.Lists.{each_among}
 use Rattle.replica_laws.proofs.Small.{IsBrief, brief_where}
 use Rattle.trail.specs.declared.opening.App.{App}
 use Rattle.trail.specs.declared.opening.App.TheVariants as apps
 use Rattle.audit_rules.specs.declared.recorded.Recorded.{Recorded}
-use Rattle.audit_rules.specs.Audits.{CanBegin, damage_by, is_client}
-use Rattle.audit_rules.specs.Coherence.{Coherent, Fresh, IsFresh, IsReplayed, LeavesBy, first_snapshot}
+use Rattle.trail_rules.specs.Replays.{arrivals}
+use Rattle.audit_rules.specs.Audits.{CanBegin, damage_by, is_client, sealed_in}
+use Rattle.audit_rules.specs.Coherence.{AreSent, Coherent, Fresh, IsFresh, IsReplayed, IsSent, LeavesBy, first_snapshot}
 use Rattle.trail_agreement.specs.Deliveries.{AreSpelled, NoCollisionBy, OneList, OneListBy}
+use Rattle.trail_agreement.specs.Excuses.{AreSentBut, CoherentBut, IsSentBut, nobody}
 use Rattle.trail_agreement.proofs.OneList.{IsOver, one_list_over}
 
 sums_are_brief : IsBrief counting
@@ -30,7 +35,7 @@ sums_are_brief = brief_where counting IsSum first_sum next_sum valid_sum brief_s
 values_are_brief : IsBrief keeping
 values_are_brief = brief_where keeping IsStore first_store next_store valid_store brief_values short_store restored_store one_store
 
-module _ (trails : List Recorded) (spelled : AreSpelled trails) (coherent : Coherent trails) (secret : List ℕ) (view : View) (period : ℕ) where
+module _ (faulty : ℕ → Bool) (trails : List Recorded) (spelled : AreSpelled trails) (coherent : CoherentBut faulty trails) (secret : List ℕ) (view : View) (period : ℕ) where
   abbrev Freshly : App → Type 0
   Freshly app = Each (IsFresh app secret view period) trails
 
@@ -62,12 +67,12 @@ module _ (trails : List Recorded) (spelled : AreSpelled trails) (coherent : Cohe
     first = (fresh_of apps.Kv each t there).book member;
   }
 
-  one_by : (app : App) → is_view view ≡ true → Freshly app → NoCollisionBy app trails → OneListBy app trails
-  one_by apps.Count viewed each apart =
-      one_list_over counting sums_are_brief trails secret view viewed spelled coherent.sent (λ t there. (fresh_of apps.Count each t there).secret_is) (λ t there. (fresh_of apps.Count each t there).view_is)
+  one_by : (app : App) → FewFaulty view faulty → is_view view ≡ true → Freshly app → NoCollisionBy app trails → OneListBy app trails
+  one_by apps.Count few viewed each apart =
+      one_list_over counting sums_are_brief faulty trails secret view few viewed spelled coherent.sent (λ t there. (fresh_of apps.Count each t there).secret_is) (λ t there. (fresh_of apps.Count each t there).view_is)
       (over_count each) apart
-  one_by apps.Kv viewed each apart =
-      one_list_over keeping values_are_brief trails secret view viewed spelled coherent.sent (λ t there. (fresh_of apps.Kv each t there).secret_is) (λ t there. (fresh_of apps.Kv each t there).view_is)
+  one_by apps.Kv few viewed each apart =
+      one_list_over keeping values_are_brief faulty trails secret view few viewed spelled coherent.sent (λ t there. (fresh_of apps.Kv each t there).secret_is) (λ t there. (fresh_of apps.Kv each t there).view_is)
       (over_kv each) apart
 
 -- no runs deliver the empty list
@@ -75,7 +80,38 @@ none_by : (app : App) → OneListBy app []
 none_by apps.Count = record { list = []; decided = λ place some low. absurd (omega (arith, some, low)); members = tt }
 none_by apps.Kv = record { list = []; decided = λ place some low. absurd (omega (arith, some, low)); members = tt }
 
+pub one_list_but : (faulty : ℕ → Bool) (trails : List Recorded) → AreSpelled trails → CoherentBut faulty trails → (fresh : Fresh trails) → FewFaulty fresh.view faulty → NoCollisionBy fresh.app trails
+    → OneListBy fresh.app trails
+one_list_but faulty [] spelled coherent fresh few apart = none_by fresh.app
+one_list_but faulty (t ∷ ts) spelled coherent fresh few apart =
+    one_by faulty (t ∷ ts) spelled coherent fresh.secret fresh.view fresh.period fresh.app few (subst (λ (v : View). is_view v ≡ true) fresh.each.0.view_is spelled.each.0.view) fresh.each apart
+
+-- ---- nobody is excused
+
+none-faulty : (members : List ℕ) → length (filter nobody members) ≡ 0
+none-faulty [] = refl
+none-faulty (x ∷ xs) = none-faulty xs
+
+few_nobody : (view : View) → is_view view ≡ true → FewFaulty view nobody
+few_nobody view viewed = let none = none-faulty view.members in record { room = (view_parts view viewed).enough; few = omega (arith, none) }
+
+all_correct : (trails : List Recorded) → Each (λ (t : Recorded). nobody t.opening.member ≡ false) trails
+all_correct [] = tt
+all_correct (t ∷ ts) = (refl, all_correct ts)
+
+coherent_but : (trails : List Recorded) → Coherent trails → CoherentBut nobody trails
+coherent_but trails is = record {
+  correct = all_correct trails;
+  replayed = is.replayed;
+  sent = each-weaken (AreSent trails) (AreSentBut nobody trails)
+      (λ t each.
+      each-weaken (λ (bytes : List ℕ). Each (IsSent trails t.opening.secret) (sealed_in (decoded bytes))) (λ (bytes : List ℕ). Each (IsSentBut nobody trails t.opening.secret) (sealed_in (decoded bytes)))
+      (λ bytes all. each-weaken (IsSent trails t.opening.secret) (IsSentBut nobody trails t.opening.secret) (λ s sent member excused tagged. sent member tagged) (sealed_in (decoded bytes)) all)
+      (arrivals t.events) each) trails is.sent;
+}
+
 pub one_list : (trails : List Recorded) → AreSpelled trails → Coherent trails → (fresh : Fresh trails) → NoCollisionBy fresh.app trails → OneListBy fresh.app trails
 one_list [] spelled coherent fresh apart = none_by fresh.app
 one_list (t ∷ ts) spelled coherent fresh apart =
-    one_by (t ∷ ts) spelled coherent fresh.secret fresh.view fresh.period fresh.app (subst (λ (v : View). is_view v ≡ true) fresh.each.0.view_is spelled.each.0.view) fresh.each apart
+    one_list_but nobody (t ∷ ts) spelled (coherent_but (t ∷ ts) coherent) fresh
+    (few_nobody fresh.view (subst (λ (v : View). is_view v ≡ true) fresh.each.0.view_is spelled.each.0.view)) apart

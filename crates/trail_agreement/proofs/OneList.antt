@@ -22,7 +22,7 @@ use Rattle.replica_rules.specs.Seals.{digest_of}
 use Rattle.node_rules.specs.Nodes.{Node, decided_place}
 use Rattle.node_rules.specs.Deliveries.{Segment}
 use Rattle.node_rules.specs.declared.node.Delivery.{Delivery}
-use Rattle.agreement_laws.specs.Law.{Witnessed}
+use Rattle.agreement_laws.specs.Law.{FewFaulty, Witnessed}
 use Rattle.agreement_laws.specs.Statements.{Statement}
 use Rattle.agreement_laws.proofs.Lists.{each_among, each_from, split_at}
 use Rattle.node_laws.specs.Restored.{IsSoundBook}
@@ -41,8 +41,9 @@ use Rattle.trail.specs.declared.event.TrailEvent.TheVariants.{Happens, Send, Los
 use Rattle.trail_rules.specs.Replays.{arrivals, node_step, sends}
 use Rattle.audit_rules.specs.declared.recorded.Recorded.{Recorded}
 use Rattle.audit_rules.specs.Audits.{damage_over, first_node, is_client}
-use Rattle.audit_rules.specs.Coherence.{AreSent, IsFirstBook, LeavesOver}
+use Rattle.audit_rules.specs.Coherence.{IsFirstBook, LeavesOver}
 use Rattle.trail_agreement.specs.Deliveries.{AreSpelled, Delivers, HasDecider, IsListed, IsSpelled, NoCollision, OneList, book_of, deliveries_of, last_node, number_of, undelivered}
+use Rattle.trail_agreement.specs.Excuses.{AreSentBut}
 use Rattle.trail_agreement.proofs.Agreed.{Decider, one_digest, reached_decided}
 use Rattle.trail_agreement.proofs.Beginning.{first_place, right-first}
 use Rattle.trail_agreement.proofs.Deliveries.{IsOf, counted-from, delivered-from, each-behind, each-front, of_listed}
@@ -51,7 +52,7 @@ use Rattle.trail_agreement.proofs.Marks.{MarksDecided}
 use Rattle.trail_agreement.proofs.Runs.{IsRight, MayArrive, right-replay}
 use Rattle.trail_agreement.proofs.Sends.{sends_rest}
 use Rattle.trail_agreement.proofs.Shown.{MayCome, all_stated, came_stated}
-use Rattle.trail_agreement.proofs.Witnesses.{AreSound, diary_in, nobody, witnesses}
+use Rattle.trail_agreement.proofs.Witnesses.{AreSound, diary_in, witnesses}
 
 -- ---- what comes in a trail
 
@@ -108,7 +109,8 @@ member_signs member some low = (least member some, low)
     least zero is = absurd (cc)
     least (suc k) is = omega arith
 
-module _ {S : Type 0} (m : Meaning S) (brief : IsBrief m) (trails : List Recorded) (secret : List ℕ) (view : View) (viewed : is_view view ≡ true) (spelled : AreSpelled trails) (sent : Each (AreSent trails) trails)
+module _ {S : Type 0} (m : Meaning S) (brief : IsBrief m) (faulty : ℕ → Bool) (trails : List Recorded) (secret : List ℕ) (view : View) (few : FewFaulty view faulty) (viewed : is_view view ≡ true)
+    (spelled : AreSpelled trails) (sent : Each (AreSentBut faulty trails) trails)
     (secrets : (t : Recorded) → Among t trails → t.opening.secret ≡ secret) (views : (t : Recorded) → Among t trails → t.opening.view ≡ view)
     (over : (t : Recorded) → Among t trails → is_client t ≡ false → IsOver m t) (apart : NoCollision m trails) where
   abbrev stated : List Statement
@@ -117,11 +119,11 @@ module _ {S : Type 0} (m : Meaning S) (brief : IsBrief m) (trails : List Recorde
   abbrev book : Recorded → List LogEntry
   book t = book_of m t
 
-  may_come : Each (MayCome trails secret) trails
+  may_come : Each (MayCome faulty trails secret) trails
   may_come =
-      each_from (MayCome trails secret) trails
+      each_from (MayCome faulty trails secret) trails
       (λ t there. let of = each_among IsSpelled trails t spelled.each there in
-      record { secret_is = secrets t there; bytes = of.came; sent = each_among (AreSent trails) trails t sent there; fits = of.sent })
+      record { secret_is = secrets t there; bytes = of.came; sent = each_among (AreSentBut faulty trails) trails t sent there; fits = of.sent })
 
   may_arrive : (t : Recorded) → Among t trails → Each (MayArrive stated secret) t.events
   may_arrive t there =
@@ -159,8 +161,8 @@ module _ {S : Type 0} (m : Meaning S) (brief : IsBrief m) (trails : List Recorde
   marks : (t : Recorded) → Among t trails → is_client t ≡ false → MarksDecided (book t)
   marks t there member = (right_last t there member).marks
 
-  known : Witnessed secret digest_of view nobody (diary_in book trails) stated
-  known = witnesses secret view trails book viewed spelled.once may_come are_sound
+  known : Witnessed secret digest_of view faulty (diary_in book trails) stated
+  known = witnesses faulty secret view trails book few viewed spelled.once may_come are_sound
 
   -- ---- the list
 
@@ -170,7 +172,7 @@ module _ {S : Type 0} (m : Meaning S) (brief : IsBrief m) (trails : List Recorde
   all : Listed trails book greatest.place
   all =
       listed trails book greatest.place
-      (λ place some low. let r = greatest.reached place some low in reached_decided secret view trails book viewed may_come are_sound marks r.0 r.1 r.2 place some r.3)
+      (λ place some low. let r = greatest.reached place some low in reached_decided faulty secret view trails book few viewed may_come are_sound marks r.0 r.1 r.2 place some r.3)
 
   -- each decision is the list's
   decided_listed : (t : Recorded) → Among t trails → is_client t ≡ false → (d : Decision) → Among (Decided d) (book t) → batch_at all.list d.slot.place ≡ Some d.batch
@@ -179,7 +181,7 @@ module _ {S : Type 0} (m : Meaning S) (brief : IsBrief m) (trails : List Recorde
       let within : d.slot.place ≤ last_made (book t) = made_within (Decided d) (book t) d.slot.place decided refl in
       let most : last_made (book t) ≤ greatest.place = greatest.most t there member in
       let at = all.each d.slot.place some (omega (arith, within, most)) in
-      let digests = one_digest secret view trails book are_sound known at.0.trail t at.0.there there at.0.member member at.0.decision d at.0.decided decided at.0.place_is in
+      let digests = one_digest faulty secret view trails book are_sound known at.0.trail t at.0.there there at.0.member member at.0.decision d at.0.decided decided at.0.place_is in
       at.1 ∙ ap (λ (b : Batch). Some b) (apart.one at.0.trail t at.0.there there at.0.member member at.0.decision d at.0.decided decided digests)
 
   along : (t : Recorded) → Among t trails → is_client t ≡ false → AreAlong all.list (book t)

@@ -24,7 +24,7 @@ use Rattle.trail.specs.declared.event.Addressed.{Addressed}
 use Rattle.trail_rules.specs.Replays.{arrivals, sends}
 use Rattle.audit_rules.specs.declared.recorded.Recorded.{Recorded}
 use Rattle.audit_rules.specs.Audits.{has_sent, is_by, is_member, is_of, made_by, made_with, same_sealed, sealed_in}
-use Rattle.audit_rules.specs.Coherence.{AreSent, IsSent}
+use Rattle.trail_agreement.specs.Excuses.{AreSentBut, IsSentBut, is_excused}
 use Rattle.trail_agreement.proofs.Stated.{made_fits, same_sealed-is, stands_fits}
 
 -- ---- what came
@@ -145,39 +145,42 @@ sent_made trails member s who has =
 -- ---- what came and was sent is shown
 
 -- what came in a trail as bytes, and was sent if it verifies
-pub record MayCome (trails : List Recorded) (secret : List ℕ) (t : Recorded) : Type 0 where
+pub record MayCome (faulty : ℕ → Bool) (trails : List Recorded) (secret : List ℕ) (t : Recorded) : Type 0 where
   pub secret_is : t.opening.secret ≡ secret
   pub bytes : Each IsBytes (arrivals t.events)
-  pub sent : AreSent trails t
+  pub sent : AreSentBut faulty trails t
   pub fits : Each (λ (a : Addressed). Fits a.message) (sends t.events)
 
 is_member-of : (member : ℕ) (who : Party) → who ≡ Member member → is_member who ≡ true
 is_member-of member (Member x) same = refl
 is_member-of member (Client x) same = absurd (cc)
 
+excused-of : (faulty : ℕ → Bool) (member : ℕ) (who : Party) → who ≡ Member member → faulty member ≡ false → is_excused faulty who ≡ false
+excused-of faulty member who same correct = ap (λ (p : Party). is_excused faulty p) same ∙ correct
+
 sealed_there : (m : Message) (read : Result Message ℕ) (s : Statement) → read ≡ Ok m → Among s (statements_in m) → Among (sealed_of s) (sealed_in read)
 sealed_there m read s same there = subst (λ (r : Result Message ℕ). Among (sealed_of s) (sealed_in r)) (sym same) (among_map sealed_of (statements_in m) s there)
 
 -- a member's statement that came is in a Send of its trail
-stated_made : (secret : List ℕ) (trails : List Recorded) (member : ℕ) (s : Statement) → Each (MayCome trails secret) trails → (c : Came secret trails s) → signer_of s ≡ Member member
+stated_made : (faulty : ℕ → Bool) (secret : List ℕ) (trails : List Recorded) (member : ℕ) (s : Statement) → faulty member ≡ false → Each (MayCome faulty trails secret) trails → (c : Came secret trails s) → signer_of s ≡ Member member
     → IsMade trails member (sealed_of s)
-stated_made secret trails member s may c who =
-    let of = each_among (MayCome trails secret) trails c.trail may c.there in
-    let sealed = each_among (λ bytes. Each (IsSent trails c.trail.opening.secret) (sealed_in (decoded bytes))) (arrivals c.trail.events) c.bytes of.sent c.arrived in
-    let sent : IsSent trails c.trail.opening.secret (sealed_of s) =
-    each_among (IsSent trails c.trail.opening.secret) (sealed_in (decoded c.bytes)) (sealed_of s) sealed (sealed_there c.message (decoded c.bytes) s c.read c.inside) in
+stated_made faulty secret trails member s correct may c who =
+    let of = each_among (MayCome faulty trails secret) trails c.trail may c.there in
+    let sealed = each_among (λ bytes. Each (IsSentBut faulty trails c.trail.opening.secret) (sealed_in (decoded bytes))) (arrivals c.trail.events) c.bytes of.sent c.arrived in
+    let sent : IsSentBut faulty trails c.trail.opening.secret (sealed_of s) =
+    each_among (IsSentBut faulty trails c.trail.opening.secret) (sealed_in (decoded c.bytes)) (sealed_of s) sealed (sealed_there c.message (decoded c.bytes) s c.read c.inside) in
     sent_made trails member (sealed_of s) who
-    (sent (is_member-of member (sealed_of s).who who) (subst (λ (k : List ℕ). verifies k s ≡ true) (sym of.secret_is) c.verified))
+    (sent (is_member-of member (sealed_of s).who who) (excused-of faulty member (sealed_of s).who who correct) (subst (λ (k : List ℕ). verifies k s ≡ true) (sym of.secret_is) c.verified))
 
 -- so a book on which all Sends of its trail rest shows it
-pub stated_shown : (secret : List ℕ) (trails : List Recorded) (member : ℕ) (s : Statement) (book : Recorded → List LogEntry) → Each (MayCome trails secret) trails
+pub stated_shown : (faulty : ℕ → Bool) (secret : List ℕ) (trails : List Recorded) (member : ℕ) (s : Statement) (book : Recorded → List LogEntry) → faulty member ≡ false → Each (MayCome faulty trails secret) trails
     → ((t : Recorded) → Among t trails → t.opening.member ≡ member → Each (λ (a : Addressed). RestsOn (book t) a.message) (sends t.events)) → Among s (all_stated secret trails)
     → signer_of s ≡ Member member → (t : Recorded) × Among t trails × (t.opening.member ≡ member) × IsShown digest_of (book t) s
-stated_shown secret trails member s book may rests there who =
+stated_shown faulty secret trails member s book correct may rests there who =
     let c : Came secret trails s = came_from secret trails s there in
-    let made : IsMade trails member (sealed_of s) = stated_made secret trails member s may c who in
-    let of = each_among (MayCome trails secret) trails c.trail may c.there in
-    let own_of = each_among (MayCome trails secret) trails made.trail may made.there in
+    let made : IsMade trails member (sealed_of s) = stated_made faulty secret trails member s correct may c who in
+    let of = each_among (MayCome faulty trails secret) trails c.trail may c.there in
+    let own_of = each_among (MayCome faulty trails secret) trails made.trail may made.there in
     let read = decoded_is c.bytes c.message (each_among IsBytes (arrivals c.trail.events) c.bytes of.bytes c.arrived) c.read in
     let fits : FitsStatement s = stands_fits c.message s read.0.content_fits c.inside in
     let sent_fits : Fits made.send.message = each_among (λ (a : Addressed). Fits a.message) (sends made.trail.events) made.send own_of.fits made.sent in

@@ -5,7 +5,7 @@ use Rattle.std.specs.List.{list_any}
 use Rattle.smart_base.specs.Lists.{Distinct, Each}
 use Rattle.smart_base.specs.Views.{View, is_member, is_view}
 use Rattle.smart_base.specs.declared.party.Party.TheVariants.{Member}
-use Rattle.smart_base.proofs.ViewFacts.{view_parts, view-names}
+use Rattle.smart_base.proofs.ViewFacts.{view-names}
 use Rattle.smart_messages.specs.Messages.{Fits}
 use Rattle.smart_service.specs.Services.{Meaning}
 use Rattle.vote_book.specs.Books.{Among, Lawful}
@@ -23,18 +23,6 @@ use Rattle.trail_rules.specs.Replays.{sends}
 use Rattle.audit_rules.specs.declared.recorded.Recorded.{Recorded}
 use Rattle.trail_agreement.specs.Deliveries.{number_of}
 use Rattle.trail_agreement.proofs.Shown.{MayCome, all_stated, stated_closed, stated_shown}
-
--- ---- nobody is faulty
-
-abbrev pub nobody : ℕ → Bool
-nobody member = false
-
-none-faulty : (members : List ℕ) → length (filter nobody members) ≡ 0
-none-faulty [] = refl
-none-faulty (x ∷ xs) = none-faulty xs
-
-few : (view : View) → is_view view ≡ true → FewFaulty view nobody
-few view viewed = let none = none-faulty view.members in record { room = (view_parts view viewed).enough; few = omega (arith, none) }
 
 -- ---- the diary of a member
 
@@ -109,20 +97,20 @@ pub record AreSound (secret : List ℕ) (view : View) (trails : List Recorded) (
   pub sound : (t : Recorded) → Among t trails → (t.opening.member == 0) ≡ false → IsSoundBook secret (all_stated secret trails) view (book t)
   pub rests : (t : Recorded) → Among t trails → (t.opening.member == 0) ≡ false → Each (λ (a : Addressed). RestsOn (book t) a.message) (sends t.events)
 
-pub witnesses : (secret : List ℕ) (view : View) (trails : List Recorded) (book : Recorded → List LogEntry) → is_view view ≡ true → Distinct (map number_of trails) → Each (MayCome trails secret) trails
-    → AreSound secret view trails book → Witnessed secret digest_of view nobody (diary_in book trails) (all_stated secret trails)
-witnesses secret view trails book viewed once may are =
+pub witnesses : (faulty : ℕ → Bool) (secret : List ℕ) (view : View) (trails : List Recorded) (book : Recorded → List LogEntry) → FewFaulty view faulty → is_view view ≡ true → Distinct (map number_of trails) → Each (MayCome faulty trails secret) trails
+    → AreSound secret view trails book → Witnessed secret digest_of view faulty (diary_in book trails) (all_stated secret trails)
+witnesses faulty secret view trails book few viewed once may are =
     record {
-      few = few view viewed;
+      few = few;
       lawful = λ member correct. by_trail book (λ (es : List LogEntry). Lawful 0 0 es) member trails none_lawful (λ t there same. (are.sound t there (no_client member correct t same)).lawful);
       backed = λ member correct.
           by_trail book (λ (es : List LogEntry). Each (IsBacked secret digest_of view (all_stated secret trails)) es) member trails tt
           (λ t there same. (are.sound t there (no_client member correct t same)).backed);
       shown = λ member correct s there who.
-          let is = stated_shown secret trails member s book may (λ t at same. are.rests t at (no_client member correct t same)) there who in
+          let is = stated_shown faulty secret trails member s book correct.correct may (λ t at same. are.rests t at (no_client member correct t same)) there who in
           subst (λ (es : List LogEntry). IsShown digest_of es s) (sym (diary_of book trails is.0 member once is.1 is.2)) is.3;
       closed = stated_closed secret trails;
     }
   where
-    no_client : (member : ℕ) → IsCorrect view nobody member → (t : Recorded) → t.opening.member ≡ member → (t.opening.member == 0) ≡ false
+    no_client : (member : ℕ) → IsCorrect view faulty member → (t : Recorded) → t.opening.member ≡ member → (t.opening.member == 0) ≡ false
     no_client member correct t same = ap (λ (k : ℕ). k == 0) same ∙ some_member view member viewed correct.within
