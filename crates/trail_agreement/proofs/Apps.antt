@@ -95,13 +95,8 @@ none-faulty (x ∷ xs) = none-faulty xs
 few_nobody : (view : View) → is_view view ≡ true → FewFaulty view nobody
 few_nobody view viewed = let none = none-faulty view.members in record { room = (view_parts view viewed).enough; few = omega (arith, none) }
 
-all_correct : (trails : List Recorded) → Each (λ (t : Recorded). nobody t.opening.member ≡ false) trails
-all_correct [] = tt
-all_correct (t ∷ ts) = (refl, all_correct ts)
-
 coherent_but : (trails : List Recorded) → Coherent trails → CoherentBut nobody trails
 coherent_but trails is = record {
-  correct = all_correct trails;
   replayed = is.replayed;
   sent = each-weaken (AreSent trails) (AreSentBut nobody trails)
       (λ t each.

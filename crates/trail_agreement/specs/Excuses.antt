@@ -1,4 +1,4 @@
--- Coherent runs of a group in which some members are excused: they may have sent anything, and their trails are not asked for.
+-- Coherent runs of a group in which some members are excused: they may have sent anything.
 use Rattle.std.specs.Prelude.{◌≡◌, ℕ, Bool, true, false, List}
 use Rattle.smart_base.specs.Lists.{Each}
 use Rattle.smart_base.specs.declared.party.Party.{Party}
@@ -24,10 +24,9 @@ IsSentBut faulty trails secret s = is_member s.who ≡ true → is_excused fault
 abbrev pub AreSentBut : (ℕ → Bool) → List Recorded → Recorded → Type 0
 AreSentBut faulty trails t = Each (λ bytes. Each (IsSentBut faulty trails t.opening.secret) (sealed_in (decoded bytes))) (arrivals t.events)
 
--- Recorded runs of members that are not excused, and of clients. Each Send of a member is the next message that leaves its replay there. Each
--- statement that came from such a member, with its tag, is the member's own in a message that it sent by its trail.
+-- Coherent recorded runs but for what came from members that are excused. Each Send of a member is the next message that leaves its replay
+-- there. Each statement that came from a member that is not excused, with its tag, is the member's own in a message that it sent by its trail.
 pub record CoherentBut (faulty : ℕ → Bool) (trails : List Recorded) : Type 0 where
-  pub correct : Each (λ (t : Recorded). faulty t.opening.member ≡ false) trails
   pub replayed : Each IsReplayed trails
   pub sent : Each (AreSentBut faulty trails) trails
 

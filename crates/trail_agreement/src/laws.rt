@@ -14,7 +14,7 @@ ghost use Rattle.trail_agreement.specs.Excuses.{CoherentBut};
 /// *Premises.* The runs have bytes, so what was sent is read as itself, and each member has one trail.
 /// No two different batches that members decide have one digest. In coherent runs nothing comes of a
 /// member that the member has not sent by its own trail. So a member without a trail has stated nothing.
-/// `excused` leaves at most f members out of that: they may have stated anything, and have no trail.
+/// `excused` leaves at most f members out of that: they may have stated anything.
 ///
 /// *Conclusion.* There is a list of batches, each of them decided by some member. Each batch that a step
 /// of a member delivered is the list's at its place. Since the member began or took over a replica, it
