@@ -55,8 +55,8 @@ count-more p x rest all old new total more is so_far =
 
 -- ---- a map of counts
 
-module _ {S : Type 0} (old new : HashMap Posted ℕ S) (x copy : Posted) (before : ℕ) (copied : post_of copy ≡ post_of x) (was : before ≡ count_or (get same_posted old x))
-    (put : (q : Posted) → get same_posted new q ≡ cond (same_posted copy q) (Some (before + 1)) (get same_posted old q)) where
+module _ {S : Type 0} (old new : HashMap Posted ℕ S) (x copy : Posted) (before after : ℕ) (copied : post_of copy ≡ post_of x) (was : before ≡ count_or (get same_posted old x)) (next : after ≡ before + 1)
+    (put : (q : Posted) → get same_posted new q ≡ cond (same_posted copy q) (Some after) (get same_posted old q)) where
   -- what the map had of a post
   abbrev look : Post → Option ℕ
   look a = lookup (λ (e : Posted). same_texts a (post_of e)) old.entries
@@ -64,14 +64,14 @@ module _ {S : Type 0} (old new : HashMap Posted ℕ S) (x copy : Posted) (before
   same_found : (p : Posted) → post_of p ≡ post_of x → count_or (get same_posted old p) ≡ before
   same_found p same = ap (λ (a : Post). count_or (look a)) same ∙ sym was
 
-  by_same : (p : Posted) (t : Bool) → same_texts (post_of x) (post_of p) ≡ t → count_or (cond t (Some (before + 1)) (get same_posted old p)) ≡ cond t 1 0 + count_or (get same_posted old p)
-  by_same p true same = let found = same_found p (same-equal (post_of x) (post_of p) same) in omega (arith, found)
+  by_same : (p : Posted) (t : Bool) → same_texts (post_of x) (post_of p) ≡ t → count_or (cond t (Some after) (get same_posted old p)) ≡ cond t 1 0 + count_or (get same_posted old p)
+  by_same p true same = let found = same_found p (same-equal (post_of x) (post_of p) same) in omega (arith, found, next)
   by_same p false same = omega arith
 
   pub once : (p : Posted) → count_or (get same_posted new p) ≡ cond (same_posted x p) 1 0 + count_or (get same_posted old p)
   once p =
       ap (λ (o : Option ℕ). count_or o) (put p)
-      ∙ (ap (λ (a : Post). count_or (cond (same_texts a (post_of p)) (Some (before + 1)) (get same_posted old p))) copied
+      ∙ (ap (λ (a : Post). count_or (cond (same_texts a (post_of p)) (Some after) (get same_posted old p))) copied
       ∙ by_same p (same_posted x p) refl)
 
 -- ---- what was received

@@ -22,16 +22,24 @@ fn count(counts: &Counts, posted: &Posted) -> u64
     }
 }
 
+/// One more, if that is within 64 bits. Error: it is not.
+fn one_more(count: u64) -> Result<u64, AllocError>
+    ensures { IfOk result (λ more. more ≡ count + 1) }
+{
+    match count.checked_add(1) {
+        Some(more) => Ok(more),
+        None => Err(AllocError),
+    }
+}
+
 /// Counts a message once more. Error: want of memory, also for 2^64 times.
 fn count_once(alloc: Global, counts: &mut Counts, posted: &Posted) -> Result<(), AllocError>
     ensures { OnOk result ((p : Posted) → count_or (get same_posted counts.new p) ≡ (if same_posted posted.now p then 1 else 0) + count_or (get same_posted counts.old p)) }
 {
     let before = count(counts, posted);
-    let Some(now) = before.checked_add(1) else {
-        return Err(AllocError);
-    };
+    let times = one_more(before)?;
     let copy = posted.copy(alloc)?;
-    counts.insert(copy, now)?;
+    counts.insert(copy, times)?;
     Ok(())
 }
 
