@@ -27,7 +27,6 @@ use Rattle.agreement_laws.specs.Statements.{Statement}
 use Rattle.agreement_laws.proofs.Groups.{is_one, own, signed_listed, signers_length}
 use Rattle.agreement_laws.proofs.Lists.{each_among, split_at}
 use Rattle.agreement_laws.proofs.Regencies.{decided_once}
-use Rattle.agreement_laws.proofs.Shared.{correct_meet}
 use Rattle.node_laws.specs.Restored.{IsSoundBook}
 use Rattle.node_laws.specs.Restoring.{AreAlong}
 use Rattle.node_laws.proofs.CertifiedBooks.{certified_book}
@@ -58,12 +57,27 @@ before_decided secret stated view es d place book there at some =
 
 -- ---- books of several members
 
-abbrev everybody : ℕ → Bool
-everybody member = true
+-- a correct member that passes a test
+record Correct (p faulty : ℕ → Bool) (xs : List ℕ) : Type 0 where
+  member : ℕ
+  there : Among member xs
+  passes : p member ≡ true
+  correct : faulty member ≡ false
 
-all-pass : (members : List ℕ) → length (filter everybody members) ≡ length members
-all-pass [] = refl
-all-pass (x ∷ xs) = ap (λ (n : ℕ). suc n) (all-pass xs)
+-- more pass a test than are faulty, so a correct one does
+some_correct : (p faulty : ℕ → Bool) (xs : List ℕ) → length (filter faulty xs) < length (filter p xs) → Correct p faulty xs
+some_correct p faulty [] more = absurd (omega (arith, more))
+some_correct p faulty (x ∷ xs) more = by (p x) (faulty x) refl refl more (λ less. later (some_correct p faulty xs less))
+  where
+    later : Correct p faulty xs → Correct p faulty (x ∷ xs)
+    later c = record { member = c.member; there = inr c.there; passes = c.passes; correct = c.correct }
+
+    by : (a b : Bool) → p x ≡ a → faulty x ≡ b → length (cond b (x ∷ filter faulty xs) (filter faulty xs)) < length (cond a (x ∷ filter p xs) (filter p xs))
+        → (length (filter faulty xs) < length (filter p xs) → Correct p faulty (x ∷ xs)) → Correct p faulty (x ∷ xs)
+    by true false passes correct less rest = record { member = x; there = inl refl; passes = passes; correct = correct }
+    by true true passes bad less rest = rest (omega (arith, less))
+    by false true fails bad less rest = rest (omega (arith, less))
+    by false false fails correct less rest = rest less
 
 -- a trail of a member whose book decides a place
 pub record Decider (trails : List Recorded) (book : Recorded → List LogEntry) (place : ℕ) : Type 0 where
@@ -96,9 +110,9 @@ module _ (faulty : ℕ → Bool) (secret : List ℕ) (view : View) (trails : Lis
       let listed = signed_listed Mark secret kinds.marks view wanted i.marks is.holds.0 in
       let counted = signers_length i.marks in
       let many = is.holds.1 in
-      let room = all-pass view.members in
-      let met = correct_meet (is_one (signers i.marks)) everybody faulty view.members view.f few.few (omega (arith, listed, counted, many, room)) in
-      let mine = own i.marks met.member met.left in
+      let rare = few.few in
+      let met = some_correct (is_one (signers i.marks)) faulty view.members (omega (arith, listed, counted, many, rare)) in
+      let mine = own i.marks met.member met.passes in
       let within : is_member view mine.item.signer ≡ true = each_among (λ (k : SignedBy Mark). is_member view k.signer ≡ true) i.marks mine.item is.holds.0.members mine.there in
       let correct : faulty mine.item.signer ≡ false = ap faulty (sym mine.signed) ∙ met.correct in
       let same : mine.item.statement ≡ mark_of i.place i.digest = each_among (λ (k : SignedBy Mark). wanted k.statement) i.marks mine.item is.holds.0.stated mine.there in

@@ -1,5 +1,5 @@
 -- The law over the service that openings name.
-use Rattle.std.proofs.Common.{◌≡◌, ℕ, Bool, false, true, filter, length, List, [], ◌∷◌, ap, sym, ◌∙◌, subst, arith, None, Some, Option}
+use Rattle.std.proofs.Common.{◌≡◌, ℕ, Bool, false, true, filter, length, List, [], ◌∷◌, refl, ap, sym, ◌∙◌, subst, arith, None, Some, Option}
 use Rattle.smart_base.specs.Lists.{Each}
 use Rattle.smart_base.specs.Views.{View, is_view}
 use Rattle.smart_base.proofs.ViewFacts.{each-weaken, view_parts}

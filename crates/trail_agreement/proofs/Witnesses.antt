@@ -1,6 +1,6 @@
 -- The books of coherent runs witness what has been stated.
 use Rattle.std.proofs.Common.{◌≡◌, ◌⊎◌, inl, inr, ⊎_elim, ℕ, ◌+◌, ◌*◌, ◌<◌, ◌≤◌, ◌==◌, Bool, true, false, cond, ◌||◌, List, [], ◌∷◌, ◌++◌, length, filter, refl, ap, sym, ◌∙◌, subst, arith, eqb-true, eq-eqb, Option, Some, None}
-use Rattle.std.specs.Prelude.{map}
+use Rattle.std.specs.Prelude.{map, if◌then◌else◌}
 use Rattle.std.specs.List.{list_any}
 use Rattle.smart_base.specs.Lists.{Distinct, Each}
 use Rattle.smart_base.specs.Views.{View, is_member, is_view}
@@ -35,11 +35,11 @@ module _ (book : Recorded → List LogEntry) where
   -- what holds of each book, and of none, holds of a diary
   by_trail : (P : List LogEntry → Type 0) (member : ℕ) (ts : List Recorded) → P [] → ((t : Recorded) → Among t ts → t.opening.member ≡ member → P (book t)) → P (diary_in book ts member)
   by_trail P member [] none holds = none
-  by_trail P member (t ∷ ts) none holds = by (t.opening.member == member) refl
+  by_trail P member (t ∷ ts) none holds = by (t.opening.member == member) refl (by_trail P member ts none (λ u there same. holds u (inr there) same))
     where
-      by : (b : Bool) → (t.opening.member == member) ≡ b → P (cond b (book t) (diary_in book ts member))
-      by true is = holds t (inl refl) (eqb-true t.opening.member member is)
-      by false is = by_trail P member ts none (λ u there same. holds u (inr there) same)
+      by : (b : Bool) → (t.opening.member == member) ≡ b → P (diary_in book ts member) → P (cond b (book t) (diary_in book ts member))
+      by true is rest = holds t (inl refl) (eqb-true t.opening.member member is)
+      by false is rest = rest
 
   no_other : (n : ℕ) (ns : List ℕ) (m : ℕ) → list_any (λ y. y == n) ns ≡ false → Among m ns → m ≡ n → ⊥
   no_other n [] m none there same = there
@@ -67,11 +67,11 @@ module _ (book : Recorded → List LogEntry) where
       by : (b : Bool) → b ≡ true → cond b (book u) (diary_in book us member) ≡ book t
       by true on = ap book (sym is)
       by false on = absurd (cc)
-  diary_of (u ∷ us) t member once (inr there) same = by (u.opening.member == member) refl
+  diary_of (u ∷ us) t member once (inr there) same = by (u.opening.member == member) refl (diary_of us t member once.1 there same)
     where
-      by : (b : Bool) → (u.opening.member == member) ≡ b → cond b (book u) (diary_in book us member) ≡ book t
-      by true is = absurd (no_other u.opening.member (map number_of us) t.opening.member once.0 (among_number_of t us there) (same ∙ sym (eqb-true u.opening.member member is)))
-      by false is = diary_of us t member once.1 there same
+      by : (b : Bool) → (u.opening.member == member) ≡ b → diary_in book us member ≡ book t → cond b (book u) (diary_in book us member) ≡ book t
+      by true is rest = absurd (no_other u.opening.member (map number_of us) t.opening.member once.0 (among_number_of t us there) (same ∙ sym (eqb-true u.opening.member member is)))
+      by false is rest = rest
 
 -- ---- what is witnessed
 
