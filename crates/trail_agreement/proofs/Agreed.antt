@@ -1,12 +1,9 @@
 -- Members of coherent runs decide one batch at each place, and leave no place out.
-use Rattle.std.proofs.Common.{◌≡◌, ◌⊎◌, inl, inr, ⊎_elim, ℕ, zero, suc, ◌+◌, ◌-◌, ◌<◌, ◌≤◌, ◌==◌, Bool, true, false, nat_le, cond, List, [], ◌∷◌, ◌++◌, length, refl, ap, sym, ◌∙◌, subst, arith, Option, Some, None, length-append}
-use Rattle.std.proofs.lemmas.Bool.{leb-true, leb-false}
+use Rattle.std.proofs.Common.{◌≡◌, inl, inr, ℕ, zero, suc, ◌+◌, ◌-◌, ◌<◌, ◌≤◌, ◌==◌, Bool, true, false, cond, List, [], ◌∷◌, ◌++◌, length, refl, ap, sym, ◌∙◌, subst, arith, Some}
 use Rattle.std.specs.Prelude.{filter}
-use Rattle.smart_base.specs.Lists.{Distinct, Each}
+use Rattle.smart_base.specs.Lists.{Each}
 use Rattle.smart_base.specs.Views.{View, is_member, is_view}
-use Rattle.smart_base.specs.declared.party.Party.TheVariants.{Member}
 use Rattle.smart_statements.specs.Forms.{SignedBy}
-use Rattle.smart_statements.specs.Batches.{Batch}
 use Rattle.smart_statements.specs.declared.report.Mark.{Mark}
 use Rattle.certificates.specs.Certificates.{mark_of, signers}
 use Rattle.smart_statements.specs.Reports as kinds
@@ -15,9 +12,8 @@ use Rattle.vote_book.specs.declared.entry.Decision.{Decision}
 use Rattle.vote_book.specs.declared.entry.Installation.{Installation}
 use Rattle.vote_book.specs.declared.entry.LogEntry.{LogEntry}
 use Rattle.vote_book.specs.declared.entry.LogEntry.TheVariants.{Opened, Wrote, Accepted, Promised, Synced, Decided, Installed, Marked}
-use Rattle.vote_book.proofs.Tested.{last_has, made_within}
+use Rattle.vote_book.proofs.Tested.{last_has}
 use Rattle.book_laws.proofs.CutAgain.{more_made}
-use Rattle.replica_rules.specs.Replicas.{batch_at}
 use Rattle.replica_rules.specs.Seals.{digest_of}
 use Rattle.agreement_laws.specs.Certificates.{IsBacked, IsTaken}
 use Rattle.agreement_laws.specs.Law.{FewFaulty, Witnessed}
@@ -28,7 +24,6 @@ use Rattle.agreement_laws.proofs.Groups.{is_one, own, signed_listed, signers_len
 use Rattle.agreement_laws.proofs.Lists.{each_among, split_at}
 use Rattle.agreement_laws.proofs.Regencies.{decided_once}
 use Rattle.node_laws.specs.Restored.{IsSoundBook}
-use Rattle.node_laws.specs.Restoring.{AreAlong}
 use Rattle.node_laws.proofs.CertifiedBooks.{certified_book}
 use Rattle.node_laws.proofs.Reopened.{in_turn, latest_is}
 use Rattle.node_laws.proofs.Restored.{front_of}

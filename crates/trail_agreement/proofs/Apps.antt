@@ -1,11 +1,9 @@
 -- The law over the service that openings name.
-use Rattle.std.proofs.Common.{◌≡◌, ℕ, Bool, false, true, filter, length, List, [], ◌∷◌, refl, ap, sym, ◌∙◌, subst, arith, None, Some, Option}
+use Rattle.std.proofs.Common.{◌≡◌, ℕ, Bool, false, true, filter, length, List, [], ◌∷◌, refl, ap, sym, ◌∙◌, subst, arith, None}
 use Rattle.smart_base.specs.Lists.{Each}
 use Rattle.smart_base.specs.Views.{View, is_view}
 use Rattle.smart_base.proofs.ViewFacts.{each-weaken, view_parts}
 use Rattle.smart_messages.specs.Messages.{decoded}
-use Rattle.smart_service.specs.Services.{Meaning}
-use Rattle.snapshot_form.specs.Snapshots.{snapshot_text}
 use Rattle.app_count.specs.Counts.{counting, IsSum}
 use Rattle.app_count.specs.Replies.{brief_replies as brief_sums}
 use Rattle.app_count.specs.Sums.{first_sum, next_sum, valid_sum, restored_sum, short_snapshot as short_sum, one_snapshot as one_sum}
@@ -15,7 +13,6 @@ use Rattle.app_kv.specs.Stores.{IsStore}
 use Rattle.app_kv.specs.States.{first_store, next_store}
 use Rattle.app_kv.specs.Restored.{valid_store, restored_store, short_snapshot as short_store, one_snapshot as one_store}
 use Rattle.vote_book.specs.Books.{Among}
-use Rattle.replica_rules.specs.Replicas.{empty}
 use Rattle.agreement_laws.specs.Law.{FewFaulty}
 use Rattle.agreement_laws.proofs.Lists.{each_among}
 use Rattle.replica_laws.proofs.Small.{IsBrief, brief_where}
@@ -25,7 +22,7 @@ use Rattle.audit_rules.specs.declared.recorded.Recorded.{Recorded}
 use Rattle.trail_rules.specs.Replays.{arrivals}
 use Rattle.audit_rules.specs.Audits.{CanBegin, damage_by, is_client, sealed_in}
 use Rattle.audit_rules.specs.Coherence.{AreSent, Coherent, Fresh, IsFresh, IsReplayed, IsSent, LeavesBy, first_snapshot}
-use Rattle.trail_agreement.specs.Deliveries.{AreSpelled, NoCollisionBy, OneList, OneListBy}
+use Rattle.trail_agreement.specs.Deliveries.{AreSpelled, NoCollisionBy, OneListBy}
 use Rattle.trail_agreement.specs.Excuses.{AreSentBut, CoherentBut, IsSentBut, nobody}
 use Rattle.trail_agreement.proofs.OneList.{IsOver, one_list_over}
 

@@ -1,23 +1,21 @@
 -- The node with which a fresh trail begins.
-use Rattle.std.proofs.Common.{◌≡◌, ⊎_elim, ◌⊎◌, inl, inr, ℕ, ◌<◌, ◌^◌, ◌&&◌, Bool, true, false, cond, List, [], ◌∷◌, ◌++◌, length, Result, Ok, Err, refl, ap, sym, ◌∙◌, subst, arith, eq-eqb, Option, Some, None}
-use Rattle.smart_base.specs.Lists.{Each, same_bytes}
+use Rattle.std.proofs.Common.{◌≡◌, ◌⊎◌, inl, inr, ℕ, ◌&&◌, Bool, true, false, cond, List, [], ◌∷◌, Result, Ok, Err, refl, ap, sym, ◌∙◌, subst, arith, eq-eqb, Option, Some, None}
+use Rattle.smart_base.specs.Lists.{same_bytes}
 use Rattle.smart_base.specs.Views.{View, is_view}
 use Rattle.smart_base.proofs.SameLists.{and_true}
 use Rattle.smart_statements.specs.Spelling.{IsSigner}
-use Rattle.smart_service.specs.Services.{Comes, comes_first, Meaning}
+use Rattle.smart_service.specs.Services.{comes_first, Meaning}
 use Rattle.snapshot_form.specs.Snapshots.{snapshot_text}
-use Rattle.vote_book.specs.Books.{Among}
 use Rattle.vote_book.specs.Admission.{admits}
-use Rattle.vote_book.specs.Entries.{entry_decoded, entry_text}
+use Rattle.vote_book.specs.Entries.{entry_decoded}
 use Rattle.vote_book.specs.declared.entry.Opening.{Opening}
 use Rattle.vote_book.specs.declared.entry.LogEntry.{LogEntry}
 use Rattle.vote_book.specs.declared.entry.LogEntry.TheVariants.{Opened, Wrote, Accepted, Promised, Synced, Decided, Installed, Marked}
-use Rattle.vote_book.specs.declared.entry.Installation.{Installation}
 use Rattle.book_laws.specs.BookCuts.{InstallUpTo}
 use Rattle.replica_rules.specs.Replicas.{empty}
 use Rattle.node_rules.specs.Nodes.{Node, recording, regency_of}
-use Rattle.node_rules.specs.Steps.{Outset, opened, outset}
-use Rattle.node_rules.specs.Reopening.{damage_at, damage_of, damaged, entries_in, entry_of, is_opening, may_restore, reopened, reopened_from, rests, stopped}
+use Rattle.node_rules.specs.Steps.{Outset, outset}
+use Rattle.node_rules.specs.Reopening.{damage_at, damage_of, damaged, entries_in, is_opening, may_restore, reopened, reopened_from, rests, stopped}
 use Rattle.agreement_laws.specs.Statements.{Statement}
 use Rattle.node_laws.specs.Restored.{IsSoundBook}
 use Rattle.node_laws.specs.Sound.{IsSound}
@@ -26,12 +24,10 @@ use Rattle.node_laws.proofs.Damage.{one_read}
 use Rattle.node_laws.proofs.Passes.{sound_begun}
 use Rattle.node_laws.proofs.Restored.{book_sound}
 use Rattle.replica_laws.proofs.FitNodes.{FitNode}
-use Rattle.replica_laws.proofs.Onward.{NodeRests}
 use Rattle.trail.specs.declared.opening.TrailOpening.{TrailOpening}
 use Rattle.audit_rules.specs.declared.recorded.Recorded.{Recorded}
-use Rattle.audit_rules.specs.Audits.{checkpoint_in, damage_over, first_node, parts_in}
+use Rattle.audit_rules.specs.Audits.{checkpoint_in, damage_over, first_node}
 use Rattle.audit_rules.specs.Coherence.{IsFirstBook}
-use Rattle.trail_agreement.proofs.Marks.{MarksDecided}
 use Rattle.trail_agreement.proofs.Runs.{IsRight}
 
 -- ---- no checkpoint

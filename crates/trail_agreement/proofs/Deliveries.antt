@@ -1,6 +1,5 @@
 -- What a member delivers it has decided, one place after the other.
-use Rattle.std.proofs.Common.{◌≡◌, inl, inr, true, ℕ, ◌+◌, List, [], ◌∷◌, ◌++◌, length, refl, ap, sym, ◌∙◌, subst, Option, Some, None}
-use Rattle.std.specs.Prelude.{IfSome}
+use Rattle.std.proofs.Common.{◌≡◌, true, ℕ, List, [], ◌∷◌, ◌++◌, ap, sym, ◌∙◌, subst, Option, Some}
 use Rattle.std.specs.List.{flat_map}
 use Rattle.smart_base.specs.Lists.{Each}
 use Rattle.smart_base.specs.Views.{View, is_view}
@@ -16,7 +15,6 @@ use Rattle.node_rules.specs.Nodes.{Node, next_place}
 use Rattle.node_rules.specs.Steps.{step_of}
 use Rattle.node_rules.specs.Deliveries.{Segment, delivery_in, segment_after}
 use Rattle.node_rules.specs.declared.node.Delivery.{Delivery}
-use Rattle.node_rules.specs.declared.node.Fired.{Fired}
 use Rattle.agreement_laws.specs.Statements.{Statement}
 use Rattle.agreement_laws.proofs.Lists.{among_left, each_append}
 use Rattle.node_laws.specs.Restoring.{AreAlong}

@@ -1,13 +1,10 @@
 -- The list of the batches that members decide.
-use Rattle.std.proofs.Common.{◌≡◌, inl, inr, ℕ, zero, suc, ◌+◌, ◌<◌, ◌≤◌, Bool, true, false, nat_le, cond, List, [], ◌∷◌, ◌++◌, length, refl, ap, sym, ◌∙◌, subst, arith, Option, Some, None, length-append}
+use Rattle.std.proofs.Common.{◌≡◌, inl, inr, ℕ, zero, suc, ◌<◌, ◌≤◌, Bool, true, false, nat_le, List, [], ◌∷◌, ◌++◌, length, refl, sym, subst, arith, Some, length-append}
 use Rattle.std.proofs.lemmas.Bool.{leb-true, leb-false}
 use Rattle.std.specs.Prelude.{slice_get}
-use Rattle.smart_base.specs.Lists.{Each}
 use Rattle.smart_statements.specs.Batches.{Batch}
 use Rattle.vote_book.specs.Books.{Among, last_made}
-use Rattle.vote_book.specs.declared.entry.Decision.{Decision}
 use Rattle.vote_book.specs.declared.entry.LogEntry.{LogEntry}
-use Rattle.vote_book.specs.declared.entry.LogEntry.TheVariants.{Decided}
 use Rattle.replica_rules.specs.Replicas.{batch_at}
 use Rattle.audit_rules.specs.declared.recorded.Recorded.{Recorded}
 use Rattle.audit_rules.specs.Audits.{is_client}

@@ -1,12 +1,10 @@
 -- A member marks only places that it has decided itself.
-use Rattle.std.proofs.Common.{◌≡◌, ⊎_elim, ℕ, ◌+◌, ◌<◌, Bool, true, false, List, [], ◌∷◌, ◌++◌, refl, ap, sym, ◌∙◌, subst, inl, inr, arith, cond, Option, Some, None, is_some, append-nil}
-use Rattle.std.specs.Prelude.{IfSome}
+use Rattle.std.proofs.Common.{◌≡◌, ⊎_elim, ℕ, ◌+◌, ◌<◌, true, List, [], ◌∷◌, ◌++◌, ap, sym, ◌∙◌, subst, arith, Option, Some, None, is_some}
 use Rattle.smart_base.specs.Lists.{Each}
 use Rattle.smart_base.proofs.SameLists.{and_true}
 use Rattle.smart_base.proofs.ViewFacts.{each-weaken}
 use Rattle.smart_statements.specs.Batches.{Batch}
 use Rattle.smart_statements.specs.declared.entry.NodeEvent.{NodeEvent}
-use Rattle.smart_statements.specs.declared.report.Mark.{Mark}
 use Rattle.smart_service.specs.Services.{Meaning}
 use Rattle.smart_service.specs.declared.replica.Replica.{Replica}
 use Rattle.state_transfer.specs.declared.fetch.Fetch.{Fetch}
@@ -14,17 +12,17 @@ use Rattle.vote_book.specs.Books.{Among}
 use Rattle.vote_book.specs.declared.entry.Decision.{Decision}
 use Rattle.vote_book.specs.declared.entry.LogEntry.{LogEntry}
 use Rattle.vote_book.specs.declared.entry.LogEntry.TheVariants.{Opened, Wrote, Accepted, Promised, Synced, Decided, Installed, Marked}
-use Rattle.node_rules.specs.Marks.{marking, mark_of, mark_place, marks_place}
+use Rattle.node_rules.specs.Marks.{mark_of, mark_place}
 use Rattle.node_rules.specs.Nodes.{Node, next_place}
 use Rattle.node_rules.specs.Rules.{delivers}
 use Rattle.node_rules.specs.Steps.{step_of, takes_in}
-use Rattle.node_rules.specs.Transfers.{installing, install_fetch, installs}
+use Rattle.node_rules.specs.Transfers.{install_fetch, installs}
 use Rattle.node_rules.proofs.Entries.{delivers_same, takes_in_same}
 use Rattle.node_rules.proofs.Rulewise.{KeptByRules, by_mark, keeps_from, none_installs}
-use Rattle.agreement_laws.proofs.Lists.{among_left, each_append, either}
+use Rattle.agreement_laws.proofs.Lists.{among_left, each_append}
 use Rattle.replica_laws.proofs.Follows.{waits-takes_in}
 use Rattle.replica_laws.proofs.Installs.{OneMore, takes-installs}
-use Rattle.replica_laws.proofs.Onward.{HasDecided, IsDecided, NodeRests}
+use Rattle.replica_laws.proofs.Onward.{IsDecided}
 use Rattle.replica_laws.proofs.Replying.{place-delivers}
 use Rattle.world_laws.proofs.Additions.{IsMarkPast, Plain, plain-accepts, plain-adopts, plain-answers_again, plain-answers_state, plain-decides, plain-joins, plain-leads, plain-plans, plain-promises, plain-proposes, plain-times, plain-writes}
 

@@ -1,14 +1,13 @@
 -- Recorded runs deliver one list.
-use Rattle.std.proofs.Common.{◌≡◌, inl, inr, ℕ, zero, suc, ◌+◌, ◌^◌, ◌<◌, ◌≤◌, ◌==◌, Bool, true, false, cond, List, [], ◌∷◌, ◌++◌, length, Result, Ok, refl, ap, sym, ◌∙◌, subst, arith, eqb-true, Option, Some, None}
-use Rattle.std.specs.Prelude.{map, is_some}
+use Rattle.std.proofs.Common.{◌≡◌, inl, inr, ℕ, zero, suc, ◌^◌, ◌<◌, ◌≤◌, ◌==◌, Bool, true, false, List, [], ◌∷◌, Ok, refl, ap, ◌∙◌, subst, arith, Some, None}
 use Rattle.smart_base.specs.Cuts.{IsBytes}
-use Rattle.smart_base.specs.Lists.{Distinct, Each}
+use Rattle.smart_base.specs.Lists.{Each}
 use Rattle.smart_base.specs.Views.{View, is_view}
 use Rattle.smart_base.proofs.ViewFacts.{each-weaken}
 use Rattle.smart_statements.specs.Batches.{Batch}
 use Rattle.smart_statements.specs.Spelling.{IsSigner}
 use Rattle.smart_statements.specs.declared.entry.NodeEvent.TheVariants.{Arrive, Tick, Deliver, Firm}
-use Rattle.smart_messages.specs.Messages.{Fits, decoded}
+use Rattle.smart_messages.specs.Messages.{decoded}
 use Rattle.smart_messages.specs.declared.message.Message.{Message}
 use Rattle.smart_service.specs.Services.{Meaning}
 use Rattle.snapshot_form.specs.Snapshots.{snapshot_text}
@@ -19,32 +18,28 @@ use Rattle.vote_book.specs.declared.entry.LogEntry.TheVariants.{Decided}
 use Rattle.vote_book.proofs.Tested.{made_within}
 use Rattle.replica_rules.specs.Replicas.{batch_at, empty}
 use Rattle.replica_rules.specs.Seals.{digest_of}
-use Rattle.node_rules.specs.Nodes.{Node, decided_place}
 use Rattle.node_rules.specs.Deliveries.{Segment}
-use Rattle.node_rules.specs.declared.node.Delivery.{Delivery}
 use Rattle.agreement_laws.specs.Law.{FewFaulty, Witnessed}
 use Rattle.agreement_laws.specs.Statements.{Statement}
 use Rattle.agreement_laws.proofs.Lists.{each_among, each_from, split_at}
 use Rattle.node_laws.specs.Restored.{IsSoundBook}
 use Rattle.node_laws.specs.Restoring.{AreAlong}
-use Rattle.node_laws.specs.Sound.{IsSound, IsStated, IsStatedEvent}
+use Rattle.node_laws.specs.Sound.{IsStated}
 use Rattle.node_laws.proofs.Books.{least_decided}
 use Rattle.node_laws.proofs.Reopened.{in_turn}
 use Rattle.node_laws.proofs.Restored.{book_sound}
-use Rattle.replica_laws.specs.Sending.{IsByteEvent, RestsOn}
 use Rattle.replica_laws.proofs.Counted.{IsCounted}
 use Rattle.replica_laws.proofs.Segments.{all_of}
 use Rattle.replica_laws.proofs.Small.{IsBrief}
-use Rattle.trail.specs.declared.event.Addressed.{Addressed}
 use Rattle.trail.specs.declared.event.TrailEvent.{TrailEvent}
 use Rattle.trail.specs.declared.event.TrailEvent.TheVariants.{Happens, Send, Lost, Polls, End}
-use Rattle.trail_rules.specs.Replays.{arrivals, node_step, sends}
+use Rattle.trail_rules.specs.Replays.{arrivals}
 use Rattle.audit_rules.specs.declared.recorded.Recorded.{Recorded}
 use Rattle.audit_rules.specs.Audits.{damage_over, first_node, is_client}
 use Rattle.audit_rules.specs.Coherence.{IsFirstBook, LeavesOver}
-use Rattle.trail_agreement.specs.Deliveries.{AreSpelled, Delivers, HasDecider, IsListed, IsSpelled, NoCollision, OneList, book_of, deliveries_of, last_node, number_of, undelivered}
+use Rattle.trail_agreement.specs.Deliveries.{AreSpelled, Delivers, IsListed, IsSpelled, NoCollision, OneList, book_of, deliveries_of, last_node, undelivered}
 use Rattle.trail_agreement.specs.Excuses.{AreSentBut}
-use Rattle.trail_agreement.proofs.Agreed.{Decider, one_digest, reached_decided}
+use Rattle.trail_agreement.proofs.Agreed.{one_digest, reached_decided}
 use Rattle.trail_agreement.proofs.Beginning.{first_place, right-first}
 use Rattle.trail_agreement.proofs.Deliveries.{IsOf, counted-from, delivered-from, each-behind, each-front, of_listed}
 use Rattle.trail_agreement.proofs.Listing.{Listed, Top, listed, top}

@@ -1,6 +1,6 @@
 -- Recorded runs that are read from bytes have bytes.
-use Rattle.std.proofs.Common.{◌≡◌, inl, inr, ℕ, zero, suc, ◌+◌, ◌<◌, ◌^◌, ◌==◌, nat_lt, Bool, true, false, cond, not, ◌||◌, List, [], ◌∷◌, ◌++◌, length, refl, ap, sym, ◌∙◌, subst, Option, Some, None, Result, Ok, Err, eqb-true, eq-eqb, append-nil}
-use Rattle.std.specs.Prelude.{map, option_map, option_to_list}
+use Rattle.std.proofs.Common.{◌≡◌, ℕ, zero, suc, ◌<◌, ◌^◌, ◌==◌, nat_lt, Bool, true, false, cond, not, ◌||◌, List, [], ◌∷◌, ◌++◌, length, refl, ap, sym, ◌∙◌, subst, Option, Some, None, Result, Ok, Err, eqb-true, eq-eqb, append-nil}
+use Rattle.std.specs.Prelude.{map, option_map}
 use Rattle.std.specs.Int.{w32, to_be_bytes}
 use Rattle.std.specs.List.{list_any}
 use Rattle.std.specs.Option.{option_and_then}
@@ -27,7 +27,7 @@ use Rattle.trail_rules.proofs.Grows.{arrivals-more, sends-more}
 use Rattle.audit_rules.specs.declared.recorded.Reading.{Reading}
 use Rattle.audit_rules.specs.declared.recorded.Recorded.{Recorded}
 use Rattle.audit_rules.specs.Audits.{is_client}
-use Rattle.audit_rules.specs.Readings.{AreRead, Reached, after_parts, all_begun, beginning, entry_taken, event_added, event_taken, is_end, is_known, may_happen, next_part, next_taken, opening_taken, part_taken, parts_read, reaches, takes, unread, with_event}
+use Rattle.audit_rules.specs.Readings.{AreRead, Reached, after_parts, all_begun, beginning, entry_taken, event_added, event_taken, is_end, is_known, may_happen, next_part, opening_taken, part_taken, parts_read, reaches, takes, unread, with_event}
 use Rattle.trail_agreement.specs.Deliveries.{AreSpelled, IsSpelled, number_of}
 use Rattle.trail_agreement.proofs.Deliveries.{each-front}
 

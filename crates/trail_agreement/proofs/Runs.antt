@@ -1,11 +1,10 @@
 -- What holds of a member's node throughout its trail.
-use Rattle.std.proofs.Common.{◌≡◌, ◌⊎◌, inl, inr, ⊎_elim, ℕ, ◌≤◌, Bool, true, cond, nat_le, List, [], ◌∷◌, ◌++◌, take, refl, ap, sym, ◌∙◌, subst, arith, append-nil, append_assoc}
+use Rattle.std.proofs.Common.{◌≡◌, ℕ, true, nat_le, List, [], ◌∷◌, ◌++◌, refl, ap, sym, ◌∙◌, subst, append-nil, append_assoc}
 use Rattle.smart_base.specs.Lists.{Each}
 use Rattle.smart_base.specs.Views.{View, is_view}
 use Rattle.smart_statements.specs.declared.entry.NodeEvent.{NodeEvent}
 use Rattle.smart_statements.specs.declared.entry.NodeEvent.TheVariants.{Arrive, Tick, Deliver, Firm}
 use Rattle.smart_service.specs.Services.{Meaning}
-use Rattle.vote_book.specs.Books.{Among}
 use Rattle.vote_book.specs.declared.entry.LogEntry.{LogEntry}
 use Rattle.node_rules.specs.Nodes.{Node, regency_of}
 use Rattle.node_rules.specs.Steps.{step_of, after_first}
@@ -19,7 +18,7 @@ use Rattle.replica_laws.specs.Sending.{IsByteEvent}
 use Rattle.replica_laws.proofs.FitNodes.{FitNode, event-fits, event-settles, fit-step}
 use Rattle.replica_laws.proofs.Genuine.{IsGood}
 use Rattle.replica_laws.proofs.Longer.{opening-step}
-use Rattle.replica_laws.proofs.Onward.{Longer, HoldsRight, NodeRests, told_firm, onward-step, longer-append}
+use Rattle.replica_laws.proofs.Onward.{Longer, HoldsRight, NodeRests, told_firm, onward-step}
 use Rattle.replica_laws.proofs.Parts.{ArePartsBytes, parts-step}
 use Rattle.replica_laws.proofs.Small.{IsBrief}
 use Rattle.trail.specs.declared.event.TrailEvent.{TrailEvent}

@@ -1,14 +1,12 @@
 -- What a member sends rests on its book.
-use Rattle.std.proofs.Common.{◌≡◌, inl, inr, ℕ, ◌≤◌, Bool, true, false, nat_le, List, [], ◌∷◌, ◌++◌, length, take, drop, append_assoc, Result, Ok, refl, ap, sym, ◌∙◌, subst, arith, Option, Some, None, cond}
+use Rattle.std.proofs.Common.{◌≡◌, ℕ, ◌≤◌, Bool, true, false, nat_le, List, [], ◌∷◌, ◌++◌, length, take, drop, append_assoc, Result, Ok, refl, ap, sym, ◌∙◌, subst, Option, Some, None, cond}
 use Rattle.std.proofs.lemmas.List.{take-append-drop}
-use Rattle.smart_base.specs.Lists.{Each, same_bytes}
+use Rattle.smart_base.specs.Lists.{Each}
 use Rattle.smart_base.specs.Views.{View, is_view}
-use Rattle.smart_base.proofs.ViewFacts.{each-weaken}
 use Rattle.smart_messages.specs.Messages.{spelling, decoded, Fits}
 use Rattle.smart_messages.specs.declared.message.Message.{Message}
 use Rattle.smart_messages.proofs.Messages.{spelling_is}
 use Rattle.smart_service.specs.Services.{Meaning}
-use Rattle.vote_book.specs.Books.{Among}
 use Rattle.vote_book.specs.declared.entry.LogEntry.{LogEntry}
 use Rattle.vote_book.proofs.Tested.{same_bytes_is}
 use Rattle.agreement_laws.proofs.Lists.{some_equal}
@@ -17,11 +15,10 @@ use Rattle.node_rules.specs.Steps.{first_leaving}
 use Rattle.node_rules.specs.declared.node.Held.{Held}
 use Rattle.agreement_laws.specs.Statements.{Statement}
 use Rattle.replica_laws.specs.Sending.{RestsOn}
-use Rattle.replica_laws.proofs.FitNodes.{FitNode}
 use Rattle.replica_laws.proofs.Genuine.{IsGood}
 use Rattle.replica_laws.proofs.Onward.{Longer, HoldsRight, rests-more}
 use Rattle.replica_laws.proofs.Small.{IsBrief}
-use Rattle.trail.specs.Events.{addressed_text, FitsAddressed}
+use Rattle.trail.specs.Events.{addressed_text}
 use Rattle.trail.specs.declared.event.Addressed.{Addressed}
 use Rattle.trail.specs.declared.event.TrailEvent.{TrailEvent}
 use Rattle.trail.specs.declared.event.TrailEvent.TheVariants.{Happens, Send, Lost, Polls, End}

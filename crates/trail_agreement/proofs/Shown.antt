@@ -1,7 +1,7 @@
 -- What came of a member was sent by it, so its book shows it.
-use Rattle.std.proofs.Common.{◌≡◌, ⊎_elim, ◌⊎◌, inl, inr, ℕ, ◌==◌, Bool, true, false, cond, ◌||◌, List, [], ◌∷◌, ◌++◌, Result, Ok, Err, refl, ap, sym, ◌∙◌, subst, eqb-true, Option, Some, None}
+use Rattle.std.proofs.Common.{◌≡◌, inl, inr, ℕ, Bool, true, false, cond, List, [], ◌∷◌, Result, Ok, Err, refl, ap, sym, ◌∙◌, subst, eqb-true}
 use Rattle.std.specs.Prelude.{map, filter}
-use Rattle.std.specs.List.{list_any, flat_map}
+use Rattle.std.specs.List.{flat_map}
 use Rattle.smart_base.specs.Cuts.{IsBytes}
 use Rattle.smart_base.specs.Lists.{Each}
 use Rattle.smart_base.specs.declared.party.Party.{Party}
@@ -18,7 +18,7 @@ use Rattle.agreement_laws.specs.Statements.{Statement, IsClosed, own, sealed_of,
 use Rattle.agreement_laws.specs.Diaries.{IsShown}
 use Rattle.agreement_laws.proofs.Closed.{closed}
 use Rattle.agreement_laws.proofs.Lists.{among_filtered, among_flat, among_map, each_among, each_from, given, within_one}
-use Rattle.node_laws.specs.Sound.{AreAmong, IsStated}
+use Rattle.node_laws.specs.Sound.{IsStated}
 use Rattle.replica_laws.specs.Sending.{RestsOn}
 use Rattle.trail.specs.declared.event.Addressed.{Addressed}
 use Rattle.trail_rules.specs.Replays.{arrivals, sends}

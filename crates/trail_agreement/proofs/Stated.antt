@@ -1,7 +1,7 @@
 -- What stands in a message that has a spelling, has one too. A statement is told by its signer, its bytes and its tag.
-use Rattle.std.proofs.Common.{◌≡◌, ⊎_elim, ℕ, Bool, true, List, [], ◌∷◌, ◌++◌, refl, ap, sym, ◌∙◌, subst, inl, inr, Option, Some, None, eqb-true}
-use Rattle.std.specs.Prelude.{map, filter}
-use Rattle.std.specs.List.{flat_map, AllByRecursion}
+use Rattle.std.proofs.Common.{◌≡◌, ⊎_elim, ℕ, true, List, [], ◌∷◌, ◌++◌, ap, sym, ◌∙◌, subst, inl, inr, Option, Some, None, eqb-true}
+use Rattle.std.specs.Prelude.{map}
+use Rattle.std.specs.List.{AllByRecursion}
 use Rattle.smart_base.specs.Lists.{same_bytes}
 use Rattle.smart_base.specs.declared.party.Party.{Party}
 use Rattle.smart_base.specs.declared.party.Party.TheVariants as parties
@@ -23,10 +23,10 @@ use Rattle.smart_statements.specs.declared.report.LockCertificate.{LockCertifica
 use Rattle.smart_messages.specs.declared.message.Message.{Message}
 use Rattle.smart_messages.specs.declared.message.Sealed.{Sealed}
 use Rattle.smart_messages.specs.Messages.{FitsContent, batch_in, decision_in}
-use Rattle.smart_messages.proofs.Messages.{FitsStatement, one_seal, own_fits, proof_in_fits, batch_in_fits}
+use Rattle.smart_messages.proofs.Messages.{FitsStatement, own_fits, proof_in_fits, batch_in_fits}
 use Rattle.vote_book.specs.Books.{Among}
 use Rattle.vote_book.proofs.Tested.{same_bytes_is}
-use Rattle.agreement_laws.specs.Statements.{Statement, Asked, Voted, Reported, Synced, Marked, sealed_of, within, in_report, parts_of_evidence, parts_of_lock, requests_of, own, proof_in, said, statements_in}
+use Rattle.agreement_laws.specs.Statements.{Statement, Asked, Voted, Reported, Synced, Marked, within, in_report, parts_of_evidence, parts_of_lock, requests_of, own, proof_in, said, statements_in}
 use Rattle.agreement_laws.proofs.Lists.{among_either, given, within_one}
 use Rattle.audit_rules.specs.Audits.{same_party, same_sealed}
 

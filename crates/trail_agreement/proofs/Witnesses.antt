@@ -1,20 +1,16 @@
 -- The books of coherent runs witness what has been stated.
-use Rattle.std.proofs.Common.{◌≡◌, ◌⊎◌, inl, inr, ⊎_elim, ℕ, ◌+◌, ◌*◌, ◌<◌, ◌≤◌, ◌==◌, Bool, true, false, cond, ◌||◌, List, [], ◌∷◌, ◌++◌, length, filter, refl, ap, sym, ◌∙◌, subst, arith, eqb-true, eq-eqb, Option, Some, None}
+use Rattle.std.proofs.Common.{◌≡◌, inl, inr, ℕ, ◌≤◌, ◌==◌, Bool, true, false, cond, ◌||◌, List, [], ◌∷◌, ◌++◌, refl, ap, sym, ◌∙◌, subst, arith, eqb-true, eq-eqb}
 use Rattle.std.specs.Prelude.{map, if◌then◌else◌}
 use Rattle.std.specs.List.{list_any}
 use Rattle.smart_base.specs.Lists.{Distinct, Each}
 use Rattle.smart_base.specs.Views.{View, is_member, is_view}
-use Rattle.smart_base.specs.declared.party.Party.TheVariants.{Member}
 use Rattle.smart_base.proofs.ViewFacts.{view-names}
-use Rattle.smart_messages.specs.Messages.{Fits}
-use Rattle.smart_service.specs.Services.{Meaning}
 use Rattle.vote_book.specs.Books.{Among, Lawful}
 use Rattle.vote_book.specs.declared.entry.LogEntry.{LogEntry}
 use Rattle.replica_rules.specs.Seals.{digest_of}
 use Rattle.agreement_laws.specs.Certificates.{IsBacked}
 use Rattle.agreement_laws.specs.Diaries.{IsShown}
 use Rattle.agreement_laws.specs.Law.{FewFaulty, IsCorrect, Witnessed}
-use Rattle.agreement_laws.specs.Statements.{Statement, signer_of}
 use Rattle.agreement_laws.proofs.Lists.{each_among, number_among}
 use Rattle.node_laws.specs.Restored.{IsSoundBook}
 use Rattle.replica_laws.specs.Sending.{RestsOn}

@@ -1,7 +1,6 @@
 //! Messages to one receiver each.
 ghost use Rattle.std.specs.Prelude.{◌≡◌, ◌++◌, ◌∷◌, [], IfOk, OnOk, map};
 ghost use Rattle.std.specs.List.{flat_map};
-ghost use Rattle.smart_messages.specs.Messages.{spelling};
 ghost use Rattle.audit_rules.specs.Quiets.{posts, sent_at, lost_at, client_sent, dropped, came};
 ghost use Rattle.trail_posts.specs.Counting.{post_of, to_each, arrived_at};
 

@@ -1,4 +1,4 @@
-use Rattle.std.proofs.Common.{◌∙◌, ap, List, map}
+use Rattle.std.proofs.Common.{map}
 use Rattle.trail_posts.specs.Counting.{post_of}
 use Rattle.trail_audit.proofs.Quiets.{rests_by_core, sent_by_core}
 use Rattle.trail_audit.proofs.quiet.play_over.Goals as goal
