@@ -1,11 +1,12 @@
 //! Whether recorded runs are quiet.
-ghost use Rattle.std.specs.Prelude.{◌≡◌, ◌++◌, ◌||◌, false, None, List, map, not, IfOk, OnOk};
-ghost use Rattle.std.specs.List.{list_any, list_all, flat_map};
+ghost use Rattle.std.specs.Prelude.{◌≡◌, ◌++◌, ◌&&◌, ◌||◌, false, None, List, map, not, IfOk, OnOk};
+ghost use Rattle.std.specs.HashMap.{get};
+ghost use Rattle.std.specs.List.{list_all, flat_map};
 ghost use Rattle.smart_base.specs.Lists.{Each};
 ghost use Rattle.trail_rules.specs.Replays.{core_steps, after, replay};
 ghost use Rattle.audit_rules.specs.Audits.{CanBegin, damage_over, damage_by};
-ghost use Rattle.audit_rules.specs.Quiets.{is_at_rest, rests_over, rests_by, rests, sent_from, sent_over, sent_by, posted, dropped, came, has_trail, is_received, is_quiet};
-ghost use Rattle.trail_posts.specs.Counting.{post_of};
+ghost use Rattle.audit_rules.specs.Quiets.{Post, is_at_rest, rests_over, rests_by, rests, sent_from, sent_over, sent_by, posted, dropped, came, has_trail, is_received, is_quiet};
+ghost use Rattle.trail_posts.specs.Counting.{post_of, same_posted, count_or, IsCount};
 
 use crate::replay::open;
 use app_count::Count;
@@ -17,7 +18,7 @@ use smart_service::service::Service;
 use std::alloc::{AllocError, Global};
 use trail::event::TrailEvent;
 use trail::opening::App;
-use trail_posts::counts::{counts_of, is_received};
+use trail_posts::counts::{Counts, counts_of, is_received};
 use trail_posts::posts::{Posted, add_client_sent, add_sent, all_came, all_dropped};
 
 /// Whether no batch waits at a core, all its entries are firm, and no message leaves it any more. One that
@@ -126,6 +127,12 @@ fn play_trail(alloc: Global, trail: &Recorded, found: &mut Vec<Posted>) -> Resul
     play_by(alloc, trail, trail.opening.app, found)
 }
 
+fn both(one: bool, other: bool) -> bool
+    ensures { result ≡ (one && other) }
+{
+    one && other
+}
+
 /// Adds what was sent by trails. Gives whether all members are at rest after them.
 fn play_all(alloc: Global, trails: &[Recorded], found: &mut Vec<Posted>) -> Result<bool, AllocError>
     requires { Each CanBegin trails.now }
@@ -135,7 +142,7 @@ fn play_all(alloc: Global, trails: &[Recorded], found: &mut Vec<Posted>) -> Resu
     let mut rest = true;
     for trail in trails {
         let told = play_trail(alloc, trail, found)?;
-        rest = rest && told;
+        rest = both(rest, told);
     }
     Ok(rest)
 }
@@ -147,16 +154,49 @@ fn has_trail(trails: &[Recorded], receiver: u16) -> bool
     trails.iter().any(|trail| trail.opening.member == receiver)
 }
 
+/// How often links dropped each message.
+fn dropped_counts(alloc: Global, trails: &[Recorded]) -> Result<Counts, AllocError>
+    ensures { IfOk result (λ counts. IsCount (λ p. count_or (get same_posted counts p)) (flat_map dropped trails.now)) }
+{
+    let posts = all_dropped(alloc, trails)?;
+    let counts = counts_of(alloc, posts.as_slice())?;
+    Ok(counts)
+}
+
+/// How often each message came.
+fn came_counts(alloc: Global, trails: &[Recorded]) -> Result<Counts, AllocError>
+    ensures { IfOk result (λ counts. IsCount (λ p. count_or (get same_posted counts p)) (flat_map came trails.now)) }
+{
+    let posts = all_came(alloc, trails)?;
+    let counts = counts_of(alloc, posts.as_slice())?;
+    Ok(counts)
+}
+
+/// Whether a message has come as often as it was sent and not dropped, or its receiver has no trail.
+fn is_settled(
+    trails: &[Recorded],
+    sent: &Counts,
+    lost: &Counts,
+    arrived: &Counts,
+    posted: &Posted,
+) -> bool
+    ensures { (s l a : List Post) → IsCount (λ p. count_or (get same_posted sent.now p)) s → IsCount (λ p. count_or (get same_posted lost.now p)) l →
+        IsCount (λ p. count_or (get same_posted arrived.now p)) a → result ≡ (not (has_trail trails.now posted.now.to) || is_received s l a (post_of posted.now)) }
+{
+    !has_trail(trails, posted.to) || is_received(sent, lost, arrived, posted)
+}
+
 /// Whether each message that was sent to a receiver with a trail and was not dropped has come, as often as
 /// it was sent. Error: want of memory.
 fn all_received(alloc: Global, trails: &[Recorded], sent: &[Posted]) -> Result<bool, AllocError>
     ensures { IfOk result (λ all. all ≡ list_all (λ p. not (has_trail trails.now p.to) || is_received (map post_of sent.now) (flat_map dropped trails.now) (flat_map came trails.now) p) (map post_of sent.now)) }
 {
-    let lost = counts_of(alloc, all_dropped(alloc, trails)?.as_slice())?;
-    let arrived = counts_of(alloc, all_came(alloc, trails)?.as_slice())?;
     let counts = counts_of(alloc, sent)?;
+    let lost = dropped_counts(alloc, trails)?;
+    let arrived = came_counts(alloc, trails)?;
     for posted in sent {
-        if has_trail(trails, posted.to) && !is_received(&counts, &lost, &arrived, posted) {
+        let settled = is_settled(trails, &counts, &lost, &arrived, posted);
+        if !settled {
             return Ok(false);
         }
     }

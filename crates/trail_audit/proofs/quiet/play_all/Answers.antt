@@ -1,5 +1,6 @@
-use Rattle.std.proofs.Common.{◌∷◌, ◌∙◌, ◌+◌, drop, sym, ap, List, map}
+use Rattle.std.proofs.Common.{Bool, ◌&&◌, ◌∷◌, ◌∙◌, ◌+◌, drop, sym, ap, List, map}
 use Rattle.std.proofs.lemmas.List.{drop_more}
+use Rattle.std.specs.List.{list_all}
 use Rattle.audit_rules.specs.declared.recorded.Recorded.{Recorded}
 use Rattle.audit_rules.specs.Quiets.{rests, posted}
 use Rattle.trail_posts.specs.Counting.{post_of}
@@ -21,6 +22,7 @@ loop-trail-preserved c =
     let is = drop_more c.args.trails.now c.loop-trail.trail-index _ c.loop-trail-test.true ∙ ap (λ (x : Recorded). x ∷ rest) (sym c.trail-item.is) in
     record {
       begin = (begins-first c.trail-item.result rest all is c.loop-trail.invariant.begin).1;
-      rest = all-more rests c.trail-item.result rest all c.loop-trail.rest c.in_ok-told.told _ is c.in_ok-told.ensures.rests c.loop-trail.invariant.rest;
+      rest = ap (λ (t : Bool). t && list_all rests rest) c.both.ensures
+          ∙ all-more rests c.trail-item.result rest all c.loop-trail.rest c.in_ok-told.told _ is c.in_ok-told.ensures.rests c.loop-trail.invariant.rest;
       sent = part-more posted c.trail-item.result rest all (map post_of c.loop-trail.found.items) (map post_of c.play_trail.new.found.items) _ c.in_ok-told.ensures.sent is c.loop-trail.invariant.sent;
     }
