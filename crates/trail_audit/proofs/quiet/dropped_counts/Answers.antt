@@ -7,5 +7,5 @@ use Rattle.trail_audit.proofs.quiet.dropped_counts.Goals as goal
 
 pub returns : goal.returns
 returns c =
-    subst (λ (ps : List Post). IsCount (λ (p : Posted). count_or (get same_posted c.in_ok-counts.counts p)) ps) (ap (λ (ps : List Posted). map post_of ps) c.as_slice.ensures ∙ c.in_ok-posts.ensures)
+    subst (λ (ps : List Post). IsCount (λ (p : Posted). count_or (get same_posted c.in_ok-counts.counts p)) ps) (ap (λ (ps : List Posted). map post_of ps) c.as_slice.ensures.value ∙ c.in_ok-posts.ensures)
     c.in_ok-counts.ensures

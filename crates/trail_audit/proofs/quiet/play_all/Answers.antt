@@ -22,7 +22,7 @@ loop-trail-preserved c =
     let is = drop_more c.args.trails.now c.loop-trail.trail-index _ c.loop-trail-test.true ∙ ap (λ (x : Recorded). x ∷ rest) (sym c.trail-item.is) in
     record {
       begin = (begins-first c.trail-item.result rest all is c.loop-trail.invariant.begin).1;
-      rest = ap (λ (t : Bool). t && list_all rests rest) c.both.ensures
+      rest = ap (λ (t : Bool). t && list_all rests rest) c.both-rest.ensures
           ∙ all-more rests c.trail-item.result rest all c.loop-trail.rest c.in_ok-told.told _ is c.in_ok-told.ensures.rests c.loop-trail.invariant.rest;
       sent = part-more posted c.trail-item.result rest all (map post_of c.loop-trail.found.items) (map post_of c.play_trail.new.found.items) _ c.in_ok-told.ensures.sent is c.loop-trail.invariant.sent;
     }
