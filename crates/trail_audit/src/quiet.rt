@@ -206,8 +206,7 @@ fn all_received(alloc: Global, trails: &[Recorded], sent: &[Posted]) -> Result<b
 /// Whether recorded runs are quiet: after each member's last event no batch waits there, all its entries
 /// are firm, and no message leaves it any more. And each message that was sent to a receiver with a trail
 /// came there, as often as it was sent and not dropped. The time is linear in the events, times the number
-/// of trails. Error: want of
-/// memory.
+/// of trails. Error: want of memory.
 #[tactic(auto, unfolding(audit_rules::specs::Quiets::is_quiet))]
 pub fn quiet(alloc: Global, trails: &[Recorded]) -> Result<bool, AllocError>
     requires { Each CanBegin trails.now }
