@@ -1,3 +1,4 @@
+pub mod Quiets
 pub mod Walks
 pub mod Damages
 pub mod Readings

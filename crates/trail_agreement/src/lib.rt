@@ -1,0 +1,4 @@
+//! The law of one list over recorded runs.
+#![tactic(auto)]
+
+pub mod laws;
