@@ -7,8 +7,9 @@ use Rattle.trail.specs.declared.event.TrailEvent.{TrailEvent}
 use Rattle.trail_rules.specs.Replays.{Step, core_steps, after, replay}
 use Rattle.audit_rules.specs.declared.recorded.Recorded.{Recorded}
 use Rattle.audit_rules.specs.Audits.{first_node}
-use Rattle.audit_rules.specs.Quiets.{Post, is_at_rest, rests_over, sent_at, sent_from, sent_over}
-use Rattle.audit_rules.proofs.Cores.{first_stands, rest_stands, sent_stands}
+use Rattle.audit_rules.specs.Quiets.{Post, seems_at_rest, rests_over, sent_at, sent_from, sent_over}
+use Rattle.audit_rules.proofs.Cores.{first_stands, sent_stands}
+use Rattle.audit_rules.proofs.Resting.{seen_at_rest}
 
 -- ---- one trail
 
@@ -26,8 +27,8 @@ sent_from-more step n m x rest all old new total next is more so_far =
 
 -- a core at the first node rests if and only if the node does, and has sent the same
 module _ {S : Type 0} (m : Meaning S) (t : Recorded) (core : Node S) (same : core ≡ first_node m t) where
-  pub rests_by_core : (told : Bool) → told ≡ is_at_rest (replay (core_steps m) core t.events) → told ≡ rests_over m t
-  rests_by_core told is = is ∙ (ap (λ k. is_at_rest (replay (core_steps m) k t.events)) same ∙ rest_stands m (first_node m t) (first_node m t) t.events (first_stands m t))
+  pub rests_by_core : (told : Bool) → told ≡ seems_at_rest (replay (core_steps m) core t.events) → told ≡ rests_over m t
+  rests_by_core told is = is ∙ (ap (λ k. seems_at_rest (replay (core_steps m) k t.events)) same ∙ seen_at_rest m t)
 
   pub sent_by_core : (old new : List Post) → new ≡ old ++ sent_from (core_steps m) core t.events → new ≡ old ++ sent_over m t
   sent_by_core old new is =

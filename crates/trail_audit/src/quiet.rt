@@ -5,7 +5,7 @@ ghost use Rattle.std.specs.List.{list_all, flat_map};
 ghost use Rattle.smart_base.specs.Lists.{Each};
 ghost use Rattle.trail_rules.specs.Replays.{core_steps, after, replay};
 ghost use Rattle.audit_rules.specs.Audits.{CanBegin, damage_over, damage_by};
-ghost use Rattle.audit_rules.specs.Quiets.{Post, is_at_rest, rests_over, rests_by, rests, sent_from, sent_over, sent_by, posted, dropped, came, has_trail, is_received, is_quiet};
+ghost use Rattle.audit_rules.specs.Quiets.{Post, seems_at_rest, rests_over, rests_by, rests, sent_from, sent_over, sent_by, posted, dropped, came, has_trail, is_received, is_quiet};
 ghost use Rattle.trail_posts.specs.Counting.{post_of, same_posted, count_or, IsCount};
 
 use crate::replay::open;
@@ -23,8 +23,8 @@ use trail_posts::posts::{Posted, add_client_sent, add_sent, all_came, all_droppe
 
 /// Whether no batch waits at a core, all its entries are firm, and no message leaves it any more. One that
 /// leaves is taken out.
-fn is_at_rest<S: Service>(core: &mut NodeCore<S>) -> bool
-    ensures { result ≡ is_at_rest core.old.node }
+fn seems_at_rest<S: Service>(core: &mut NodeCore<S>) -> bool
+    ensures { result ≡ seems_at_rest core.old.node }
 {
     if core.waits() {
         return false;
@@ -63,7 +63,7 @@ fn play<S: Service>(
     found: &mut Vec<Posted>,
 ) -> Result<bool, AllocError>
     requires { core.broken ≡ false }
-    ensures rests { IfOk result (λ rests. rests ≡ is_at_rest (replay (core_steps S.meaning) core.node events.now)) }
+    ensures rests { IfOk result (λ rests. rests ≡ seems_at_rest (replay (core_steps S.meaning) core.node events.now)) }
     ensures sent { OnOk result (map post_of found.new.items ≡ map post_of found.old.items ++ sent_from (core_steps S.meaning) core.node events.now) }
 {
     let mut core = core;
@@ -71,7 +71,7 @@ fn play<S: Service>(
         add_sent(alloc, core.view().members(), event, found)?;
         play_event(&mut core, event)?;
     }
-    Ok(is_at_rest(&mut core))
+    Ok(seems_at_rest(&mut core))
 }
 
 /// The same of a member's trail.
