@@ -325,6 +325,8 @@ class Model:
             self.decide(*step.split(" | "))
             return f"{self.state()}, {len(self.devices[self.generation % 2].now)}"
         if verb == "newest":
+            if self.is_closed:
+                return "closed"
             generation, snapshot = newest(self.devices)
             return f"{generation} " + ("none" if snapshot is None else spelled(snapshot))
         if verb == "close":
@@ -548,7 +550,7 @@ FILES = {
 }
 
 # the files that were written by hand
-ROWS = ["rows", "promises", "lengths"]
+ROWS = ["rows", "faults", "promises", "lengths"]
 
 
 def made(name):

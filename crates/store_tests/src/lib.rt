@@ -1,14 +1,5 @@
-//! Tests of the disks and of what is kept on them: groups of entries, checkpoints, and the store of
-//! both.
+//! Tests of the disks over files. What is kept on disks is played by the lives of store_lives.
 #![tactic(auto)]
 
 #[cfg(test)]
 mod disks;
-#[cfg(test)]
-mod forms;
-#[cfg(test)]
-mod frail;
-#[cfg(test)]
-mod slots;
-#[cfg(test)]
-mod stores;
