@@ -177,6 +177,47 @@ def marked(digest_there):
     return number(1, 8) + number(8, 1) + digest_there
 
 
+# The entries of a member of four, by a letter each: `o` opens its book; `w` is a write in regency 0, `s` the beginning of regency 7
+# without its promise, `v` a write there. `a` is an accept, `b` one with too few writes, `c` one of another batch than the writes are for.
+# `d` is the decision of the same batch, `e` one with too few accepts, `f` one with writes for accepts. `g` decides another batch, `h`
+# that batch with accepts of the first. `?` is none.
+SEVENS = b"\7" * 32
+OTHER = several([request(1, 0, b"6")])
+
+
+def first_votes(kind, batch, count=3):
+    return several([vote(kind, who, batch) for who in range(1, count + 1)])
+
+
+def accepted_of(digest_there, votes):
+    return number(1, 3) + slot() + digest_there + votes + BATCH
+
+
+def decided_of(batch, votes):
+    return number(1, 6) + slot() + batch + votes
+
+
+def votes_on(kind, digest_there):
+    return several([signed(1, who, number(1, kind) + slot() + digest_there) for who in (1, 2, 3)])
+
+
+LETTERS = {
+    "o": number(1, 1) + number(2, 1) + number(4, 4) + FOUR,
+    "w": number(1, 2) + slot() + SEVENS,
+    "s": number(1, 5) + number(4, 0) + number(4, 7) + number(8, 1) + number(1, 0),
+    "v": number(1, 2) + slot(1, 7) + SEVENS,
+    "a": accepted_of(digest(BATCH), first_votes(2, BATCH)),
+    "b": accepted_of(digest(BATCH), first_votes(2, BATCH, 2)),
+    "c": accepted_of(SEVENS, votes_on(2, SEVENS)),
+    "d": decided_of(BATCH, first_votes(3, BATCH)),
+    "e": decided_of(BATCH, first_votes(3, BATCH, 2)),
+    "f": decided_of(BATCH, first_votes(2, BATCH)),
+    "g": decided_of(OTHER, first_votes(3, OTHER)),
+    "h": decided_of(OTHER, first_votes(3, BATCH)),
+    "?": b"\t\t",
+}
+
+
 def opening(who, entries=0, view=VIEW, period=1024, snapshot=EMPTY, app=0):
     return number(1, 0) + number(2, who) + number(4, period) + view + number(1, app) + text(SECRET) + text(snapshot) + number(8, entries)
 
@@ -349,6 +390,18 @@ def whole_bytes(remark, data, ending):
     STDOUT.extend([f"# {remark}", said(ending)])
 
 
+# A replica at place 1, with no client's request, and a sum of 5.
+WHOLE = replica(FOUR, 1, [], number(8, 5))
+
+
+def restored(letters, damaged, snapshot):
+    """A member of four begins with the entries of these letters. The number of the first that is damaged counts from 1, and 0 is the
+    checkpoint; the parts of a trail count the opening too."""
+    behind = "" if snapshot == EMPTY_FOUR else " behind a checkpoint" if snapshot == WHOLE else " behind a checkpoint that is none"
+    parts = [opening(1, len(letters), FOUR, 4, snapshot), *[LETTERS[letter] for letter in letters], END]
+    whole(f"restored are {letters or 'no entries'}{behind}", parts, COHERENT if damaged is None else script(damaged + 1))
+
+
 def fronts(remark, parts):
     """Each proper front of a trail: the first part that is lacking, or is not there whole, is told."""
     data = spelled(parts)
@@ -458,6 +511,41 @@ whole("a restored vote for a later place", [opening(1, 2), OPENED, wrote(BATCH, 
 whole("a second restored vote of its kind", [opening(1, 3), OPENED, wrote(BATCH), wrote(BATCH), END], script(4))
 whole("a restored decision of a later place", [opening(1, 2), OPENED, decided(BATCH_TWO, 2), END], script(3))
 whole("a restored decision with a vote of another tag", [opening(1, len(BOOK))] + BOOK[:3] + [decided(BATCH, 1, UNSIGNED), END], script(5))
+# what a member of four restores: the first that is damaged is told, which is the opening, or an entry by its part
+for letters, damaged in [
+    ("owd", None),
+    ("osvd", None),
+    # The first is the opening, each is spelled as it should be, and the book admits it.
+    ("w", 1),
+    ("o?", 2),
+    ("oww", 3),
+    ("odd", 3),
+    ("ov", 2),
+    ("odov", 4),
+    # A decision rests on accepts of its batch, and a lock on writes of its own.
+    ("oe", 2),
+    ("of", 2),
+    ("oh", 2),
+    ("owad", None),
+    ("oae", 3),
+    ("oag", None),
+    ("oah", 3),
+    ("oada", 4),
+    ("ob", 2),
+    ("oc", 2),
+]:
+    restored(letters, damaged, EMPTY_FOUR)
+for letters, damaged in [
+    ("", None),
+    ("o", None),
+    # The place of the checkpoint may be decided in the log, once.
+    ("od", None),
+    ("odd", 3),
+    ("w", 1),
+]:
+    restored(letters, damaged, WHOLE)
+for letters in ["", "o", "w"]:
+    restored(letters, 0, WHOLE[:-1])
 whole_bytes("a part that is longer than what is left", text(opening(1)) + number(4, 2) + END, script(2))
 whole_bytes("a length of three bytes", text(opening(1)) + number(3, 1), script(2))
 whole("a damaged part before one that cannot be read", [opening(1, 1), b"\xff", number(1, 9)], script(2))

@@ -1,12 +1,6 @@
-//! Digests and tags against values from outside.
-use smart_base::duplicate::Duplicate;
-use smart_base::keys::{Digester, Verifier};
-use smart_base::name::{ClientId, MemberId};
-use smart_base::party::Party;
-use smart_base::sequence::Bytes;
+//! Digests against values from outside. Tags from outside are checked by the rows of audit_rows and tables.
+use smart_base::keys::Digester;
 use smart_keys::hash::{Sha, hmac};
-use smart_keys::ring::Ring;
-use std::alloc::Global;
 
 /// A number below 16 in hexadecimal.
 fn digit(number: u8) -> u8 {
@@ -130,67 +124,4 @@ fn keyed_digests_are_those_of_python(rt: HostRuntime) {
             "b613679a0814d9ec772f95d778c35fc5ff1697c493715653c6c712144292c5ad",
         )
     );
-}
-
-/// Whether the tag of a party over `text` is this one, and is told to be that party's and no other's.
-fn seals(alloc: Global, ring: &Ring, who: &Party, want: &str) -> bool {
-    match ring.sealer(*who).seal(alloc, b"text") {
-        Ok(tag) => is_hex(tag.as_slice(), want) && is_told(ring, who, tag.as_slice()),
-        Err(_) => false,
-    }
-}
-
-fn is_told(ring: &Ring, who: &Party, tag: &[u8]) -> bool {
-    let other = Party::Member(MemberId::new(7));
-    ring.verifies(*who, b"text", tag)
-        && !ring.verifies(*who, b"texT", tag)
-        && !ring.verifies(other, b"text", tag)
-}
-
-/// Whether the tags of two parties are those that Python's `hmac` makes by the keys `01 01 02` and
-/// `02 00 07` of the secret.
-fn seals_both(alloc: Global, ring: &Ring) -> bool {
-    seals(
-        alloc,
-        ring,
-        &Party::Member(MemberId::new(258)),
-        "219e8cdde443c6460da4b0c89e84fa1b2eea85dd3f2310ff924c6d7dfe56d0ec",
-    ) && seals(
-        alloc,
-        ring,
-        &Party::Client(ClientId::new(7)),
-        "18ff7e5e2beacb23e5bcef7f78e56267c88936e205135f7c9489a120442d620e",
-    )
-}
-
-/// Whether tags are told as before after a right tag of a party was checked, and after a wrong one.
-fn seals_as_checked(alloc: Global, ring: &mut Ring, who: &Party) -> bool {
-    let tag = match ring.sealer(*who).seal(alloc, b"text") {
-        Ok(tag) => tag,
-        Err(_) => return false,
-    };
-    let right = ring.check(alloc, *who, b"text", tag.as_slice()).is_ok();
-    let as_before = right && seals_both(alloc, ring);
-    let wrong = ring.check(alloc, *who, b"texT", tag.as_slice()).is_ok();
-    as_before && wrong && seals_both(alloc, ring)
-}
-
-/// Tags are told to be their party's before its key is learnt and after it, by a copy, and after tags
-/// were checked.
-#[test]
-fn tags_are_told_to_be_their_partys(rt: HostRuntime) {
-    let alloc = rt.alloc();
-    let secret = Bytes::from_slice(alloc, b"the group's secret").expect(&rt, "there is memory");
-    let mut ring = Ring::from_secret(secret);
-    assert!(rt; seals_both(alloc, &ring));
-    ring.learn(Party::Member(MemberId::new(258)))
-        .expect(&rt, "there is memory");
-    ring.learn(Party::Client(ClientId::new(7)))
-        .expect(&rt, "there is memory");
-    let copy = ring.duplicate(alloc).expect(&rt, "there is memory");
-    assert!(rt; seals_both(alloc, &ring) && seals_both(alloc, &copy));
-    let member = Party::Member(MemberId::new(258));
-    assert!(rt; seals_as_checked(alloc, &mut ring, &member));
-    let client = Party::Client(ClientId::new(7));
-    assert!(rt; seals_as_checked(alloc, &mut ring, &client));
 }

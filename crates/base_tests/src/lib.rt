@@ -1,5 +1,5 @@
-//! Tests of what every layer stands on: views and their bytes, digests and tags, sources and sinks,
-//! and services; of checkpoints and marks; and of the scripts of loads.
+//! Tests of what every layer stands on: views and their bytes, digests, sources and sinks, and services
+//! with their snapshots; of the turns of checkpoints; and of the scripts of loads.
 #![tactic(auto)]
 
 #[cfg(test)]

@@ -45,10 +45,3 @@ fn loads_have_these_scripts(rt: HostRuntime) {
     assert!(rt; has_text(&rt, rt.alloc(), 2, TWO));
     assert!(rt; has_text(&rt, rt.alloc(), 65, SIXTY_FIVE));
 }
-
-#[test]
-fn a_load_has_no_line_behind_its_last(rt: HostRuntime) {
-    let mut script = LoadScript::new(0);
-    assert!(rt; script.next().is_some() && script.next().is_some() && script.next().is_some());
-    assert!(rt; script.next().is_none() && script.next().is_none());
-}

@@ -1,15 +1,11 @@
-//! The bytes of a snapshot, what is none, and its pieces.
-ghost use Rattle.std.specs.Prelude.{◌<◌};
-
+//! The bytes of a snapshot, and that no front of them is one.
 use app_count::Count;
 use smart_base::name::ClientId;
 use smart_service::fault::RestoreError;
 use smart_service::replica::Replica;
-use snapshot_form::pieces::piece;
 use snapshot_form::reading::from_bytes;
 use snapshot_form::writing::to_bytes;
 use std::alloc::Global;
-use std::process::Abort;
 
 /// A replica at place 1: view 0 from place 1 on, of members 1 to 4, of which 1 may be faulty; client
 /// 1's request 1, executed at place 1 with the reply 5; and a sum of 5.
@@ -59,42 +55,4 @@ fn no_proper_prefix_is_a_snapshot(rt: HostRuntime) {
     for count in 0..76 {
         assert!(rt; is_refused(rt.alloc(), &SNAPSHOT[..count]));
     }
-}
-
-/// Whether a snapshot with another byte at a place is refused.
-fn is_spoiled(alloc: Global, place: usize, byte: u8) -> bool
-    requires { place < 76 }
-{
-    let mut bytes = SNAPSHOT;
-    bytes[place] = byte;
-    is_refused(alloc, &bytes)
-}
-
-#[test]
-fn what_does_not_suit_a_replica_is_refused(rt: HostRuntime) {
-    let alloc = rt.alloc();
-    // A view of another number, and one that starts from another place.
-    assert!(rt; is_spoiled(alloc, 13, 1));
-    assert!(rt; is_spoiled(alloc, 21, 2));
-    // A line of a later place, of an index past its batch and of a view that is not there.
-    assert!(rt; is_spoiled(alloc, 52, 2));
-    assert!(rt; is_spoiled(alloc, 54, 64));
-    assert!(rt; is_spoiled(alloc, 58, 1));
-}
-
-/// How many bytes a piece has, 99 where there is none.
-fn piece_bytes(bytes: &[u8], i: u32) -> usize {
-    match piece(bytes, i) {
-        Some(part) => part.len(),
-        None => 99,
-    }
-}
-
-#[test]
-fn a_piece_has_65536_bytes_and_the_last_fewer(rt: HostRuntime) {
-    let bytes = [7; 65537];
-    assert!(rt; piece_bytes(&bytes, 0) == 65536);
-    assert!(rt; piece_bytes(&bytes, 1) == 1);
-    assert!(rt; piece_bytes(&bytes, 2) == 99);
-    assert!(rt; piece_bytes(&bytes[..65536], 1) == 99);
 }

@@ -1,11 +1,8 @@
-//! Sources and sinks that fail in the middle.
+//! Sources and sinks over readers and writers that fail in the middle.
 use faults::Fault;
-use smart_io::memory::{MemSink, MemSource};
 use smart_io::standard::{StdSink, StdSource};
 use smart_io::stream::{Sink, Source, write_all};
-use std::alloc::Global;
 use std::io::{self, Read, Write};
-use std::process::Abort;
 
 /// A reader and a writer that fail at every call.
 #[derive(Drop)]
@@ -27,10 +24,6 @@ impl Write for Broken {
     }
 }
 
-fn copied<T: Copy>(rt: &impl Abort, alloc: Global, items: &[T]) -> Vec<T> {
-    Vec::from_slice(alloc, items).expect(rt, "there is memory")
-}
-
 const FAILED: Fault = Fault::Failed;
 
 /// Whether a read into two dashes answers so and makes these bytes of them.
@@ -48,29 +41,6 @@ fn writes<O: Sink>(sink: &mut O, bytes: &[u8], answer: Result<(), Fault>) -> boo
 /// Whether a flush answers so.
 fn flushes<O: Sink>(sink: &mut O, answer: Result<(), Fault>) -> bool {
     sink.flush() == answer
-}
-
-#[test]
-fn a_source_in_memory_fails_where_it_is_told_to(rt: HostRuntime) {
-    let bytes = copied(&rt, rt.alloc(), b"abc");
-    let mut source = MemSource::new(bytes, copied(&rt, rt.alloc(), &[2]));
-    assert!(rt; reads(&mut source, Ok(2), b"ab"));
-    assert!(rt; reads(&mut source, Err(FAILED), b"--"));
-    assert!(rt; reads(&mut source, Ok(1), b"c-"));
-    assert!(rt; reads(&mut source, Ok(0), b"--"));
-    assert!(rt; source.faults == 1);
-}
-
-#[test]
-fn a_sink_in_memory_fails_where_it_is_told_to(rt: HostRuntime) {
-    let bytes = copied(&rt, rt.alloc(), b"a");
-    let mut sink = MemSink::new(bytes, copied(&rt, rt.alloc(), &[2, 4]));
-    assert!(rt; writes(&mut sink, b"bc", Ok(())));
-    assert!(rt; writes(&mut sink, b"de", Err(FAILED)));
-    assert!(rt; flushes(&mut sink, Ok(())));
-    assert!(rt; flushes(&mut sink, Err(FAILED)));
-    assert!(rt; sink.bytes.as_slice() == b"abc".as_slice());
-    assert!(rt; sink.faults == 2 && sink.wants == 0);
 }
 
 #[test]

@@ -1,15 +1,11 @@
 //! The bytes of a view, what makes no view, and the sizes that a view gives.
-ghost use Rattle.std.specs.Prelude.{◌<◌};
-
 use smart_base::cursor::Cursor;
-use smart_base::fault::ReadError;
 use smart_base::name::MemberId;
-use smart_base::number::Regency;
 use smart_base::view::View;
 use smart_base::view_bytes::{put_view, read_view};
 use smart_view::fault::ViewFault;
 use smart_view::making::make;
-use smart_view::size::{collect_size, index_of, leader, quorum, stop_size};
+use smart_view::size::{collect_size, quorum, stop_size};
 use std::alloc::Global;
 use std::process::Abort;
 
@@ -29,33 +25,6 @@ fn a_view_is_its_number_start_faults_and_members(rt: HostRuntime) {
     assert!(rt; view.number().get() == 2 && view.start() == 5);
     assert!(rt; view.f() == 1 && view.members().len() == 4);
     assert!(rt; is_written(rt.alloc(), &view, &VIEW));
-}
-
-/// Where these bytes are no view, 99 where they are one.
-fn unread_at(alloc: Global, bytes: &[u8]) -> usize {
-    match read_view(alloc, &mut Cursor::new(bytes)).err() {
-        Some(ReadError::Unread { at }) => at,
-        _ => 99,
-    }
-}
-
-/// Where the bytes of a view are none, once the byte at a place is another.
-fn changed(alloc: Global, place: usize, byte: u8) -> usize
-    requires { place < 23 }
-{
-    let mut bytes = VIEW;
-    bytes[place] = byte;
-    unread_at(alloc, &bytes)
-}
-
-#[test]
-fn the_first_field_that_makes_no_view_is_named(rt: HostRuntime) {
-    assert!(rt; changed(rt.alloc(), 2, 4) == 0);
-    assert!(rt; changed(rt.alloc(), 11, 0) == 4);
-    assert!(rt; changed(rt.alloc(), 12, 11) == 12);
-    assert!(rt; changed(rt.alloc(), 14, 3) == 13);
-    assert!(rt; changed(rt.alloc(), 18, 1) == 17);
-    assert!(rt; unread_at(rt.alloc(), &VIEW[..20]) == 19);
 }
 
 fn members(rt: &impl Abort, alloc: Global, numbers: &[u16]) -> Vec<MemberId> {
@@ -118,24 +87,4 @@ fn each_fault_of_a_view_has_a_name_and_a_number(rt: HostRuntime) {
     assert!(rt; is_called(zero, "Zero", 4));
     let spent = fault(&rt, rt.alloc(), 1024, &[1, 2, 3, 4]);
     assert!(rt; is_called(spent, "Spent", 5));
-}
-
-/// The index of a member of a view, 99 where it is none.
-fn index(view: &View, member: u16) -> usize {
-    index_of(view, MemberId::new(member)).unwrap_or(99)
-}
-
-/// The number of the member that leads in a regency.
-fn leads(view: &View, regency: u32) -> u16 {
-    leader(view, Regency::new(regency)).get()
-}
-
-#[test]
-fn members_ascend_and_lead_in_turn(rt: HostRuntime) {
-    let named = members(&rt, rt.alloc(), &[65535, 7, 1, 300]);
-    let view = make(1023, 9, named, 1).ok().expect(&rt, "a view");
-    assert!(rt; index(&view, 1) == 0 && index(&view, 7) == 1);
-    assert!(rt; index(&view, 300) == 2 && index(&view, 2) == 99);
-    assert!(rt; leads(&view, 0) == 1 && leads(&view, 3) == 65535);
-    assert!(rt; leads(&view, 4) == 1 && leads(&view, 4_294_967_295) == 65535);
 }

@@ -1,16 +1,12 @@
-//! What the tests share: the keys and the view of a group of four, and what its members state.
-use smart_base::bytes::{Digest32, Payload};
-use smart_base::keys::Digester;
+//! What the tests share: the keys and the view of a group of four, and what is stated there.
+use smart_base::bytes::Payload;
 use smart_base::name::{ClientId, MemberId};
-use smart_base::number::{Place, Regency, ViewNo};
 use smart_base::party::Party;
 use smart_base::sequence::Bytes;
 use smart_base::view::View;
-use smart_keys::hash::Sha;
 use smart_keys::ring::Ring;
-use smart_statements::batch::Batch;
 use smart_statements::signed::{Signed, Statement};
-use smart_statements::statement::{Ballot, Request, Slot, VoteKind};
+use smart_statements::statement::Request;
 use std::alloc::Global;
 use std::process::Abort;
 
@@ -59,41 +55,4 @@ pub fn request(rt: &impl Abort, alloc: Global, number: u16, seq: u64, op: u8) ->
         op: Payload::from_slice(alloc, &[op]).expect(rt, "there is memory"),
     };
     sealed(rt, alloc, client(number), number, request)
-}
-
-/// The batch of the first request of client 1.
-pub fn batch(rt: &impl Abort, alloc: Global, op: u8) -> Batch {
-    let request = request(rt, alloc, 1, 1, op);
-    Batch::single(alloc, request).expect(rt, "there is memory")
-}
-
-pub fn digest_of(rt: &impl Abort, alloc: Global, batch: &Batch) -> Digest32 {
-    let text = batch.text(alloc).expect(rt, "there is memory");
-    Sha::digest(text.as_slice())
-}
-
-/// The first place at a regency.
-pub fn slot(regency: u32) -> Slot {
-    Slot {
-        view: ViewNo::new(0),
-        place: Place::new(1),
-        regency: Regency::new(regency),
-    }
-}
-
-/// A member's vote for a digest at the first place.
-pub fn vote(
-    rt: &impl Abort,
-    alloc: Global,
-    kind: VoteKind,
-    regency: u32,
-    number: u16,
-    digest: Digest32,
-) -> Signed<Ballot> {
-    let ballot = Ballot {
-        kind,
-        slot: slot(regency),
-        digest,
-    };
-    sealed(rt, alloc, member(number), number, ballot)
 }

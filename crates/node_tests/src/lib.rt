@@ -1,16 +1,9 @@
-//! Tests of a node's parts and of a client: what no clause of those crates says and no transcript
-//! reaches.
+//! Tests of what a node keeps of requests, and of what a client makes of replies.
 #![tactic(auto)]
 
 #[cfg(test)]
 mod clients;
 #[cfg(test)]
-mod instances;
-#[cfg(test)]
 mod kit;
 #[cfg(test)]
-mod outboxes;
-#[cfg(test)]
 mod pools;
-#[cfg(test)]
-mod restarts;
