@@ -195,30 +195,6 @@ fn ran<R: Abort + Threads + Wait + Sync>(
 }
 
 #[test]
-fn wrong_words_are_said_to_be_bad(rt: HostRuntime) {
-    for row in [
-        "smart ",
-        "smart word",
-        "smart World",
-        "smart world now",
-        "smart -- world",
-        "smart world -x",
-        "smart help other",
-        "smart load",
-        "smart load 0",
-        "smart load 100001",
-        "smart load 01",
-        "smart load x",
-        "smart load 1 2",
-    ] {
-        let ended = ran(&rt, rt.alloc(), row);
-        assert_eq!(rt; ended.0, Status::Words);
-        assert!(rt; ended.1.is_empty());
-        assert_eq!(rt; ended.2.as_slice(), b"smart: bad words\n".as_slice());
-    }
-}
-
-#[test]
 fn help_is_said_before_that_the_words_are_bad(rt: HostRuntime) {
     for row in [
         "smart",
@@ -236,15 +212,6 @@ fn help_is_said_before_that_the_words_are_bad(rt: HostRuntime) {
         assert!(rt; ended.1.is_empty());
         assert!(rt; ended.2.len() > 100);
         assert!(rt; ended.2.ends_with(b"\nsmart: bad words\n"));
-    }
-}
-
-#[test]
-fn a_command_reads_its_input(rt: HostRuntime) {
-    for row in ["smart world", "smart world --"] {
-        let kind = Kind::Empty;
-        let ended = ran(&rt, rt.alloc(), row);
-        assert_eq!(rt; ended.0, Status::Script { line: 1, kind });
     }
 }
 
