@@ -26,8 +26,8 @@ PROCESSOR, ON_FOUR, ON_TWO, FUNCTION, CRATE = 250, 75, 140, 20, 300
 TICK = os.sysconf("SC_CLK_TCK")
 
 
-def used(process):
-    """Returns the crate, the kind of work and the processor seconds of a process, or None where it is none of the gate's."""
+def used(process, gate):
+    """Returns a process's number and beginning, its crate and kind of work, and its processor seconds, or None where it is none of the gate's."""
     try:
         with open(f"/proc/{process}/cmdline", "rb") as file:
             words = file.read().decode(errors="replace").split("\0")
@@ -36,11 +36,13 @@ def used(process):
         folder = os.readlink(f"/proc/{process}/cwd")
     except OSError:
         return None
-    if "--crate-name" not in words or not (folder.startswith(os.getcwd()) or "/rt-edit-" in folder):
+    # (a wrong body is checked in a folder that is named by the number of the gate's process)
+    is_wrong = f"/rt-edit-{gate}-" in folder
+    if "--crate-name" not in words or not (folder.startswith(os.getcwd() + "/") or is_wrong):
         return None
     crate = words[words.index("--crate-name") + 1]
-    kind = "wrong bodies" if "/rt-edit-" in folder else "tests" if "--test" in words else "proof"
-    return crate, kind, (int(fields[11]) + int(fields[12])) / TICK
+    kind = "wrong bodies" if is_wrong else "tests" if "--test" in words else "proof"
+    return (process, fields[19], crate, kind), (int(fields[11]) + int(fields[12])) / TICK
 
 
 def play():
@@ -50,13 +52,13 @@ def play():
     with subprocess.Popen(["rt", "ci", *["--anew"] * has_anew]) as gate:
         while gate.poll() is None:
             for name in os.listdir("/proc"):
-                found = used(name) if name.isdigit() else None
+                found = used(name, gate.pid) if name.isdigit() else None
                 if found:
-                    seen[name, found[0], found[1]] = found[2]
+                    seen[found[0]] = found[1]
             time.sleep(0.5)
     spent = resource.getrusage(resource.RUSAGE_CHILDREN)
     table = collections.defaultdict(lambda: collections.Counter())
-    for (_, crate, kind), seconds in seen.items():
+    for (_, _, crate, kind), seconds in seen.items():
         table[crate][kind] += seconds
     return gate.returncode, (time.time() - began) / 60, (spent.ru_utime + spent.ru_stime) / 60, table
 
@@ -70,11 +72,17 @@ def functions(crate):
             if ":" in line and not line.startswith("#"):
                 left, _, right = line.partition(":")
                 uses[left.split()[0]] = right.split()
+    # (a line of crates.txt names what the crate's own text names; what those stand on is found below)
+    below = [it for it in uses[crate] if it in uses]
+    for name in below:
+        below += [it for it in uses[name] if it in uses and it not in below]
     root = "src/main.rt" if os.path.isfile(f"crates/{crate}/src/main.rt") else "src/lib.rt"
     words = [f"{kit}/bin/rattle", "check", "--crate-name", crate, root, "--extern", f"std={kit}/rlibs/std.rlib"]
     for name in uses[crate]:
         at = os.path.abspath(f"crates/{name}/out/rlib") if name in uses else f"{kit}/rlibs"
-        words += ["--extern", f"{name}={at}/{name}.rlib", "-L", f"dependency={at}"]
+        words += ["--extern", f"{name}={at}/{name}.rlib"]
+    for name in below:
+        words += ["-L", "dependency=" + os.path.abspath(f"crates/{name}/out/rlib")]
     words += ["-L", f"dependency={kit}/rlibs", "--antt-project", f"{kit}/rattle/logic/antt-project.json"]
     words += ["--logic-built", f"{kit}/logic_built", "--links", f"{crate}=", "--jobs", "1", "--progress"]
     last, rows = None, []
