@@ -22,29 +22,17 @@ fn asking(rt: &impl Abort, alloc: Global) -> Client {
     client
 }
 
-/// A member's reply with some of its parts wrong: the tag (`t`), the client (`c`), the request's
-/// number (`s`), the view (`v`); or with another reply (`b`).
-fn reply(rt: &impl Abort, alloc: Global, number: u16, wrong: &str) -> Signed<Answer> {
-    let reply = if wrong == "b" { b'b' } else { b'a' };
-    let mut answer = Answer {
+/// A member's reply to that request.
+fn reply(rt: &impl Abort, alloc: Global, number: u16) -> Signed<Answer> {
+    let answer = Answer {
         view: ViewNo::new(0),
         place: Place::new(7),
         index: 2,
         client: ClientId::new(5),
         seq: 1,
-        reply: Payload::from_slice(alloc, &[reply]).expect(rt, "there is memory"),
+        reply: Payload::from_slice(alloc, b"a").expect(rt, "there is memory"),
     };
-    let mut sealer = number;
-    for letter in wrong.bytes() {
-        match letter {
-            b't' => sealer = number.wrapping_add(1),
-            b'c' => answer.client = ClientId::new(6),
-            b's' => answer.seq = 2,
-            b'v' => answer.view = ViewNo::new(1),
-            _ => {}
-        }
-    }
-    sealed(rt, alloc, member(sealer), number, answer)
+    sealed(rt, alloc, member(number), number, answer)
 }
 
 /// How many gave a reply, 99 where it is accepted; or why it is ignored.
@@ -54,35 +42,6 @@ fn told(heard: &Heard) -> Result<u64, Ignored> {
         Heard::Accepted(_) => Ok(99),
         Heard::Ignored(why) => Err(*why),
     }
-}
-
-#[test]
-fn the_third_equal_reply_is_accepted_and_the_first_reason_told(rt: HostRuntime) {
-    let alloc = rt.alloc();
-    let (ring, view) = (ring(&rt, alloc), view(&rt, alloc));
-    let mut client = asking(&rt, alloc);
-    for (number, wrong, want) in [
-        (1, "", Ok(1)),
-        (9, "tcsv", Err(Ignored::BadTag)),
-        (9, "csv", Err(Ignored::Settled)),
-        (9, "sv", Err(Ignored::Settled)),
-        (1, "v", Err(Ignored::UnknownView)),
-        (9, "", Err(Ignored::Stranger)),
-        (1, "", Err(Ignored::Repeated)),
-        (2, "b", Ok(1)),
-        (2, "", Err(Ignored::Repeated)),
-        (4, "", Ok(2)),
-        (3, "", Ok(99)),
-        (3, "", Err(Ignored::Settled)),
-    ] {
-        let reply = reply(&rt, alloc, number, wrong);
-        let heard = client
-            .hear_reply(alloc, &view, &ring, &reply)
-            .expect(&rt, "there is memory");
-        assert_eq!(rt; told(&heard), want, "{number} {wrong}");
-    }
-    assert!(rt; client.waiting().is_none());
-    assert_eq!(rt; client.seen().get(), 7);
 }
 
 /// How many gave the reply that a message's bytes spell, as `told` says.
@@ -106,7 +65,7 @@ fn bytes_are_heard_as_the_reply_that_they_spell(rt: HostRuntime) {
     let heard = hears(&rt, alloc, &mut client, &other);
     assert!(rt; heard == Err(Ignored::Unread));
     for (number, want) in [(1, 1), (2, 2), (3, 99)] {
-        let message = Message::Reply(reply(&rt, alloc, number, ""));
+        let message = Message::Reply(reply(&rt, alloc, number));
         let heard = hears(&rt, alloc, &mut client, &message);
         assert!(rt; heard == Ok(want));
     }
