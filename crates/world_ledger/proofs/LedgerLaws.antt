@@ -11,13 +11,11 @@ use Rattle.smart_base.proofs.SameLists.{same_list-equal}
 use Rattle.smart_statements.specs.Batches.{Batch, batch_text}
 use Rattle.smart_messages.specs.Messages.{batch_in}
 use Rattle.smart_keys.specs.Keys.{digest}
-use Rattle.world_rules.specs.Premises.{Claim, batches, batches_met, texts_in, met, clash, collides, texts_met, newly_met, marked_with}
+use Rattle.world_rules.specs.Premises.{batches, batches_met, texts_in, met, clash, collides, texts_met, newly_met, marked_with}
 use Rattle.world_rules.specs.declared.message.Content.{Content}
 use Rattle.world_rules.specs.declared.message.Content.TheVariants as contents
 use Rattle.world_rules.specs.declared.message.Sent.{Sent}
 use Rattle.world_ledger.specs.Ledgers.{LedgerState, IsIndex, IsTextOf, indexed}
-use Rattle.world_ledger.specs.Statements.{claim_of}
-use Rattle.world_ledger.specs.declared.stated.Stated.{Stated}
 
 same_bytes-refl : (a : List ℕ) → same_bytes a a ≡ true
 same_bytes-refl [] = refl
@@ -318,9 +316,3 @@ index_none = record { stands = tt; comes = λ d text some. absurd (cc) }
 -- the digest of a text is the one of the bytes that are equal to it
 pub digest_is : (own text key : List ℕ) → text ≡ own → key ≡ digest text → digest own ≡ key
 digest_is own text key same is = sym (is ∙ ap (λ x. digest x) same)
-
--- ---- one of several is forged
-
-pub any_claimed : (f : Claim → Bool) (xs : List Stated) → list_any (λ s. f (claim_of s)) xs ≡ list_any f (map claim_of xs)
-any_claimed f [] = refl
-any_claimed f (x ∷ xs) = ap (λ b. f (claim_of x) || b) (any_claimed f xs)

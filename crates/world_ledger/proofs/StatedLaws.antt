@@ -1,20 +1,21 @@
 -- An index of statements stays one.
-use Rattle.std.proofs.Common.{◌≡◌, ℕ, Bool, true, false, cond, ◌||◌, ◌&&◌, List, [], ◌∷◌, ◌++◌, map, filter, Result, Ok, Err, IsOk, OnOk, OnErr, refl, ap, sym, ◌∙◌}
-use Rattle.std.specs.Prelude.{nat_eq, if◌then◌else◌}
+use Rattle.std.proofs.Common.{◌≡◌, ◌≤◌, ℕ, Bool, true, false, cond, ◌||◌, ◌&&◌, List, [], ◌∷◌, ◌++◌, map, filter, Result, Ok, Err, IsOk, OnOk, OnErr, length, take, refl, ap, sym, ◌∙◌, arith}
+use Rattle.std.specs.Prelude.{nat_eq, not, if◌then◌else◌}
 use Rattle.std.specs.Bool.{beq}
 use Rattle.std.specs.Cmp.{nat_eq_equiv}
 use Rattle.std.specs.Cmp.Lexicographic.{pointwise}
 use Rattle.std.specs.List.{list_any}
 use Rattle.std.proofs.lemmas.Bool.{eqb-true}
+use Rattle.std.proofs.lemmas.List.{take-append-le, length_push}
 use Rattle.std.proofs.lemmas.List.Folds.{list_any-append}
 use Rattle.smart_base.specs.Lists.{same_bytes}
 use Rattle.smart_base.specs.declared.party.Party.{Party}
 use Rattle.smart_base.specs.declared.party.Party.TheVariants.{Member, Client}
-use Rattle.world_rules.specs.Premises.{Claim, claims, same_party, same_claim, is_from, is_stated}
+use Rattle.world_rules.specs.Premises.{Claim, claims, same_party, same_claim, is_from, is_stated, is_forgery}
 use Rattle.world_rules.specs.declared.message.Origin.{Origin}
 use Rattle.world_rules.specs.declared.message.Sent.{Sent}
 use Rattle.world_ledger.specs.declared.stated.Stated.{Stated}
-use Rattle.world_ledger.specs.Statements.{claim_of, same_stated, is_own, IsStatedIndex}
+use Rattle.world_ledger.specs.Statements.{claim_of, same_stated, is_own, is_unsent, IsStatedIndex}
 
 -- what a call that succeeds ensures
 pub on_ok : {A E : Type 0} (r : Result A E) (P : Type 0) → IsOk r → OnOk r P → P
@@ -121,7 +122,20 @@ stated-more f g sent s own index is more =
           more q ∙ (rw (e, index.exact q) (or_turned here (is_stated sent c)) ∙ sym (stated-end sent s c));
     }
 
--- ---- statements are kept
+-- ---- messages that are not read yet
+
+-- one more message leaves those that were read
+pub stated-front : (has : Stated → Bool) (read : ℕ) (sent : List Sent) (s : Sent) → read ≤ length sent → IsStatedIndex has (take read sent) → IsStatedIndex has (take read (sent ++ s ∷ []))
+stated-front has read sent s few index = rw (take-append-le read sent (s ∷ []) few) index
+
+pub few-more : (read : ℕ) (sent : List Sent) (s : Sent) → read ≤ length sent → read ≤ length (sent ++ s ∷ [])
+few-more read sent s few = rw (length_push sent s) (omega (arith, few))
+
+-- one of several is forged, by the index of all messages that were sent
+pub any_unsent : (has : Stated → Bool) (faulty rogue : List ℕ) (sent : List Sent) (xs : List Stated) → IsStatedIndex has sent
+    → list_any (is_unsent has faulty rogue) xs ≡ list_any (is_forgery faulty rogue sent) (map claim_of xs)
+any_unsent has faulty rogue sent [] index = refl
+any_unsent has faulty rogue sent (x ∷ xs) index = rw (index.exact x, any_unsent has faulty rogue sent xs index) refl
 
 -- ---- statements are put
 

@@ -1,5 +1,5 @@
 -- What a ledger has, and its indexes: of texts by their digests, and of the statements that their signers have sent.
-use Rattle.std.specs.Prelude.{◌≡◌, ℕ, ◌⊎◌, Bool, List, [], ◌∷◌, Option, Some, cond, nat_eq}
+use Rattle.std.specs.Prelude.{◌≡◌, ◌≤◌, ℕ, ◌⊎◌, Bool, List, [], ◌∷◌, Option, Some, cond, nat_eq, length, take}
 use Rattle.std.specs.Cmp.Lexicographic.{pointwise}
 use Rattle.smart_base.specs.Lists.{Each}
 use Rattle.smart_keys.specs.Keys.{digest}
@@ -30,7 +30,8 @@ abbrev pub indexed : (List ℕ → Option (List ℕ)) → List (List ℕ) → Li
 indexed index [] key = index key
 indexed index (t ∷ ts) key = indexed (λ d. cond (pointwise nat_eq (digest t) d) (Some t) (index d)) ts key
 
--- The indexes of messages and snapshots.
-pub record IsIndexed (index : List ℕ → Option (List ℕ)) (has : Stated → Bool) (sent : List Sent) (marked : List (List ℕ)) : Type 0 where
+-- The indexes of messages and snapshots. Statements are indexed of the messages that were read: the first ones.
+pub record IsIndexed (index : List ℕ → Option (List ℕ)) (has : Stated → Bool) (read : ℕ) (sent : List Sent) (marked : List (List ℕ)) : Type 0 where
   pub texts : IsIndex index (texts_met sent marked)
-  pub statements : IsStatedIndex has sent
+  pub statements : IsStatedIndex has (take read sent)
+  pub few : read ≤ length sent

@@ -1,13 +1,13 @@
 //! The messages that were sent, and the snapshots that were met.
-ghost use Rattle.std.specs.Prelude.{◌≡◌, ◌++◌, [], ◌∷◌, ℕ, Bool, List, IfOk, OnOk, OnErr, true, false, nat_eq};
+ghost use Rattle.std.specs.Prelude.{◌≡◌, ◌≤◌, ◌++◌, [], ◌∷◌, ℕ, Bool, List, IfOk, OnOk, OnErr, true, false, nat_eq, length, take};
 ghost use Rattle.std.specs.Cmp.Lexicographic.{pointwise};
 ghost use Rattle.std.specs.HashMap.{get};
 ghost use Rattle.std.specs.HashSet.{contains};
 ghost use Rattle.std.specs.List.{list_any};
-ghost use Rattle.world_rules.specs.Premises.{texts_in, clash, is_forgery, is_forged, collides, texts_met, newly_met, marked_with};
+ghost use Rattle.world_rules.specs.Premises.{texts_in, clash, is_forged, collides, texts_met, newly_met, marked_with};
 ghost use Rattle.world_rules.specs.declared.message.Sent.{Sent};
 ghost use Rattle.world_ledger.specs.declared.stated.Stated.{Stated};
-ghost use Rattle.world_ledger.specs.Statements.{claim_of, same_stated};
+ghost use Rattle.world_ledger.specs.Statements.{same_stated, is_unsent, IsStatedIndex};
 ghost use Rattle.world_ledger.specs.Ledgers.{indexed, IsIndexed};
 
 use crate::claims::claims;
@@ -31,13 +31,16 @@ type TextIndex = HashMap<[u8; 32], Bytes>;
 
 /// All messages that were sent, and the snapshots that were met, in order. No two different texts of
 /// these (of batches and snapshots) have one digest. Two indexes spare a walk over the messages. One says
-/// whether a further text has another's digest, the other whether its signer has sent a statement.
+/// whether a further text has another's digest, the other whether its signer has sent a statement. The
+/// second has the statements of the messages that were read: a play that injects nothing reads none.
 pub struct Ledger {
     ring: GroupRing,
     sent: Vec<Sent>,
     marked: Vec<Bytes>,
     texts: TextIndex,
     stated: StatedIndex,
+    /// The number of the first messages, whose statements are in the index.
+    read: usize,
 }
 
 impl Drop for Ledger {
@@ -48,6 +51,7 @@ impl Drop for Ledger {
             marked: _marked,
             texts: _texts,
             stated: _stated,
+            read: _read,
         } = self;
     }
 }
@@ -64,7 +68,7 @@ impl Model for Ledger {
 
     ghost view = { λ l. record { sent = l.sent.items; marked = l.marked.items } };
 
-    ghost invariant = { λ l. IsIndexed (get (pointwise nat_eq) l.texts) (contains same_stated l.stated) l.sent.items l.marked.items };
+    ghost invariant = { λ l. IsIndexed (get (pointwise nat_eq) l.texts) (contains same_stated l.stated) l.read l.sent.items l.marked.items };
 }
 
 /// Puts the batch of a content, if it has one, under its digest.
@@ -102,36 +106,88 @@ fn learn_sender(ring: &mut GroupRing, origin: &Origin) -> Result<(), AllocError>
     }
 }
 
-/// Puts what a message holds that does not collide into the indexes of the messages before it and of
-/// the snapshots. Without memory they stay those of these messages and snapshots.
-fn put_message(
+/// Puts the batch of a message that does not collide into the index of texts. Without memory it stays as
+/// it was.
+fn put_message(alloc: Global, texts: &mut TextIndex, sent: &Sent) -> Result<(), AllocError>
+    ensures ok { OnOk result ((has : Stated → Bool) (read : ℕ) (before : List Sent) (marked : List (List ℕ)) → collides (texts_met before marked) (texts_in sent.now.content) ≡ false →
+        IsIndexed (get (pointwise nat_eq) texts.old) has read before marked →
+        IsIndexed (get (pointwise nat_eq) texts.new) has read (before ++ sent.now ∷ []) marked) }
+    ensures err { OnErr result ((has : Stated → Bool) (read : ℕ) (before : List Sent) (marked : List (List ℕ)) → IsIndexed (get (pointwise nat_eq) texts.old) has read before marked →
+        IsIndexed (get (pointwise nat_eq) texts.new) has read before marked) }
+{
+    put_batch(alloc, texts, &sent.content)?;
+    Ok(())
+}
+
+/// Puts the statements in a message that its sender has signed into the index of the messages before it.
+/// Without memory it stays as it was.
+fn read_message(
     alloc: Global,
     ring: &mut GroupRing,
-    texts: &mut TextIndex,
     stated: &mut StatedIndex,
     sent: &Sent,
 ) -> Result<(), AllocError>
-    ensures ok { OnOk result ((before : List Sent) (marked : List (List ℕ)) → collides (texts_met before marked) (texts_in sent.now.content) ≡ false →
-        IsIndexed (get (pointwise nat_eq) texts.old) (contains same_stated stated.old) before marked →
-        IsIndexed (get (pointwise nat_eq) texts.new) (contains same_stated stated.new) (before ++ sent.now ∷ []) marked) }
-    ensures err { OnErr result ((before : List Sent) (marked : List (List ℕ)) → IsIndexed (get (pointwise nat_eq) texts.old) (contains same_stated stated.old) before marked →
-        IsIndexed (get (pointwise nat_eq) texts.new) (contains same_stated stated.new) before marked) }
+    ensures ok { OnOk result ((before : List Sent) → IsStatedIndex (contains same_stated stated.old) before → IsStatedIndex (contains same_stated stated.new) (before ++ sent.now ∷ [])) }
+    ensures err { OnErr result ((before : List Sent) → IsStatedIndex (contains same_stated stated.old) before → IsStatedIndex (contains same_stated stated.new) before) }
 {
     learn_sender(ring, &sent.origin)?;
     let own = own_statements(alloc, ring.get(), sent)?;
     stated.reserve(own.len())?;
-    put_batch(alloc, texts, &sent.content)?;
     put_all(stated, own);
     Ok(())
 }
 
+/// Reads the messages after the first ones, of which the index has the statements. Without memory it
+/// reads some of them.
+fn read_rest(
+    alloc: Global,
+    ring: &mut GroupRing,
+    stated: &mut StatedIndex,
+    read: &mut usize,
+    sent: &[Sent],
+) -> Result<(), AllocError>
+    requires few { read.old ≤ length sent.now }
+    requires index { IsStatedIndex (contains same_stated stated.old) (take read.old sent.now) }
+    ensures all { OnOk result (IsStatedIndex (contains same_stated stated.new) sent.now) }
+    ensures few { read.new ≤ length sent.now }
+    ensures index { IsStatedIndex (contains same_stated stated.new) (take read.new sent.now) }
+{
+    let first = *read;
+    for i in first..sent.len() {
+        read_message(alloc, ring, stated, &sent[i])?;
+        *read = i + 1;
+    }
+    Ok(())
+}
+
+/// Whether the signer of a statement, who is not excused, has not sent it, by an index.
+fn is_unsent(stated: &StatedIndex, faulty: &[MemberId], rogue: &[ClientId], found: &Stated) -> bool
+    ensures { result ≡ is_unsent (contains same_stated stated.now) faulty.now rogue.now found.now }
+{
+    !is_excused(faulty, rogue, found.signer()) && !stated.contains(found)
+}
+
+/// Whether this holds of one of several statements.
+fn has_unsent(
+    stated: &StatedIndex,
+    faulty: &[MemberId],
+    rogue: &[ClientId],
+    found: &[Stated],
+) -> bool
+    ensures { result ≡ list_any (is_unsent (contains same_stated stated.now) faulty.now rogue.now) found.now }
+{
+    found
+        .iter()
+        .any(|one| is_unsent(stated, faulty, rogue, one))
+}
+
 /// Puts a snapshot that is new into the index of texts. Without memory it stays as it was.
 fn put_snapshot(alloc: Global, texts: &mut TextIndex, snapshot: &Bytes) -> Result<(), AllocError>
-    ensures ok { OnOk result ((has : Stated → Bool) (sent : List Sent) (marked : List (List ℕ)) → newly_met (texts_met sent marked) snapshot.now ≡ true →
-        IsIndexed (get (pointwise nat_eq) texts.old) has sent marked →
-        IsIndexed (get (pointwise nat_eq) texts.new) has sent (marked ++ snapshot.now ∷ [])) }
-    ensures err { OnErr result ((has : Stated → Bool) (sent : List Sent) (marked : List (List ℕ)) → IsIndexed (get (pointwise nat_eq) texts.old) has sent marked →
-        IsIndexed (get (pointwise nat_eq) texts.new) has sent marked) }
+    ensures ok { OnOk result ((has : Stated → Bool) (read : ℕ) (sent : List Sent) (marked : List (List ℕ)) → newly_met (texts_met sent marked) snapshot.now ≡ true →
+        IsIndexed (get (pointwise nat_eq) texts.old) has read sent marked →
+        IsIndexed (get (pointwise nat_eq) texts.new) has read sent (marked ++ snapshot.now ∷ [])) }
+    ensures err { OnErr result ((has : Stated → Bool) (read : ℕ) (sent : List Sent) (marked : List (List ℕ)) → IsIndexed (get (pointwise nat_eq) texts.old) has read sent marked →
+        IsIndexed (get (pointwise nat_eq) texts.new) has read sent marked) }
 {
     put_text(alloc, texts, snapshot)?;
     Ok(())
@@ -147,6 +203,7 @@ impl Ledger {
             marked: Vec::new(alloc),
             texts: HashMap::new(alloc),
             stated: HashSet::new(alloc),
+            read: 0,
         })
     }
 
@@ -182,35 +239,28 @@ impl Ledger {
         }
     }
 
-    /// Whether the signer of a statement, who is not excused, has not sent it.
-    fn is_forgery(&self, faulty: &[MemberId], rogue: &[ClientId], stated: &Stated) -> bool
-        ensures { result ≡ is_forgery faulty.now rogue.now self.now.sent (claim_of stated.now) }
-    {
-        !is_excused(faulty, rogue, stated.signer()) && !self.stated.contains(stated)
-    }
-
-    /// Whether one of several statements is forged.
-    fn has_forgery(&self, faulty: &[MemberId], rogue: &[ClientId], found: &[Stated]) -> bool
-        ensures { result ≡ list_any (λ s. is_forgery faulty.now rogue.now self.now.sent (claim_of s)) found.now }
-    {
-        found
-            .iter()
-            .any(|stated| self.is_forgery(faulty, rogue, stated))
-    }
-
     /// Whether a content has a statement that its signer, who is neither declared faulty nor rogue,
-    /// has not sent.
+    /// has not sent. The messages that were sent since the last such question are read first. The ledger
+    /// is unchanged.
     pub fn is_forged(
-        &self,
+        &mut self,
         alloc: Global,
         faulty: &[MemberId],
         rogue: &[ClientId],
         content: &Content,
     ) -> Result<bool, AllocError>
-        ensures { IfOk result (λ forged. forged ≡ is_forged faulty.now rogue.now self.now.sent content.now) }
+        ensures is { IfOk result (λ forged. forged ≡ is_forged faulty.now rogue.now self.old.sent content.now) }
+        ensures same { self.new ≡ self.old }
     {
+        read_rest(
+            alloc,
+            &mut self.ring,
+            &mut self.stated,
+            &mut self.read,
+            self.sent.as_slice(),
+        )?;
         let found = claims(alloc, self.ring.get(), content)?;
-        Ok(self.has_forgery(faulty, rogue, found.as_slice()))
+        Ok(has_unsent(&self.stated, faulty, rogue, found.as_slice()))
     }
 
     /// Adds a message that does not collide. Without memory the ledger is unchanged.
@@ -220,13 +270,7 @@ impl Ledger {
         ensures err { OnErr result (self.new ≡ self.old) }
     {
         self.sent.reserve(1)?;
-        put_message(
-            alloc,
-            &mut self.ring,
-            &mut self.texts,
-            &mut self.stated,
-            &sent,
-        )?;
+        put_message(alloc, &mut self.texts, &sent)?;
         self.sent.push(sent)?;
         Ok(())
     }

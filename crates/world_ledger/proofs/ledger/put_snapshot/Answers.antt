@@ -9,14 +9,16 @@ use Rattle.world_ledger.proofs.ledger.put_snapshot.Goals as goal
 pub returns-in_err-put_text-clause-err : goal.returns-in_err-put_text-clause-err
 returns-in_err-put_text-clause-err c =
     on_err c.from_residual.result _
-    (λ has sent marked index. record {
+    (λ has read sent marked index. record {
       texts = index-same (get (pointwise nat_eq) c.args.texts.now) (get (pointwise nat_eq) c.put_text.new.index) (texts_met sent marked) index.texts c.in_err-put_text.ensures.err;
       statements = index.statements;
+      few = index.few;
     })
 
 pub returns-clause-ok : goal.returns-clause-ok
 returns-clause-ok c =
-    λ has sent marked new index. record {
+    λ has read sent marked new index. record {
       texts = index-snapshot (get (pointwise nat_eq) c.args.texts.now) (get (pointwise nat_eq) c.put_text.new.index) sent marked c.args.snapshot.now index.texts new c.in_ok-put_text.ensures.ok;
       statements = index.statements;
+      few = index.few;
     }
