@@ -1,0 +1,63 @@
+//! One list over several views.
+ghost use Rattle.std.specs.Prelude.{◌≡◌, ℕ, List, [], Bool};
+ghost use Rattle.smart_base.specs.Views.{View};
+ghost use Rattle.smart_statements.specs.Forms.{SignedBy};
+ghost use Rattle.smart_statements.specs.Batches.{Batch};
+ghost use Rattle.smart_statements.specs.declared.statement.Ballot.{Ballot};
+ghost use Rattle.vote_book.specs.declared.entry.LogEntry.{LogEntry};
+ghost use Rattle.agreement_laws.specs.Fronts.{IsFront};
+ghost use Rattle.agreement_laws.specs.Statements.{Statement};
+ghost use Rattle.agreement_laws.specs.Certificates.{IsDecision};
+ghost use Rattle.agreement_laws.specs.Law.{IsCorrect, Witnessed};
+ghost use Rattle.agreement_laws.specs.Lists.{AllCertified, Exact};
+ghost use Rattle.view_laws.specs.Views.{view_at, AreOneList};
+ghost use Rattle.view_laws.specs.Along.{WitnessedAlong};
+ghost use Rattle.view_laws.specs.Courses.{decided_in, AreCourses};
+
+/// What diaries witness along a list, they witness in each view along it: those of its places, and that
+/// of the place behind it. So each law of one view holds in each of them.
+pub fn each_view_is_witnessed()
+    ensures { (secret : List ℕ) (digest_of : Batch → List ℕ) (view_after : List Batch → View) (faulty : ℕ → Bool) (lists : ℕ → List Batch) (diary : ℕ → List LogEntry)
+        (stated : List Statement) (chosen : List Batch) → WitnessedAlong secret digest_of view_after faulty lists diary stated chosen →
+        (front : List Batch) → IsFront front chosen → Witnessed secret digest_of (view_after front) faulty diary stated }
+{}
+
+/// A place has one decision, in the view in force there: that of the batches before it (Mod-SMaRt, EDCC
+/// 2012; views in a row: BFT-SMaRt, DSN 2014).
+pub fn each_place_has_one_decision()
+    ensures { (secret : List ℕ) (digest_of : Batch → List ℕ) (view_after : List Batch → View) (faulty : ℕ → Bool) (lists : ℕ → List Batch) (diary : ℕ → List LogEntry)
+        (stated : List Statement) (chosen : List Batch) → WitnessedAlong secret digest_of view_after faulty lists diary stated chosen →
+        (place regency later : ℕ) (first second : List ℕ) (left right : List (SignedBy Ballot)) →
+        IsDecision secret (view_at view_after chosen place) stated place regency first left →
+        IsDecision secret (view_at view_after chosen place) stated place later second right → first ≡ second }
+{}
+
+/// One list over several views: of a list of which each batch is decided at its place, and of the chosen
+/// list, the shorter is a front of the longer.
+///
+/// Each batch is decided in the view that the batches before it in its own list make. So is each entry of
+/// a member's diary made in a view of that member's own list. That all these views are one where their
+/// places are follows, place by place: the same batches before, hence the same view, hence the same
+/// decision. At most f members of each view along the chosen list are faulty. Of the views of other lists
+/// nothing is asked.
+pub fn one_list_over_views()
+    // Any list of which each batch is certified for its place, such as that of a member now faulty.
+    ensures certified { (secret : List ℕ) (digest_of : Batch → List ℕ) (view_after : List Batch → View) (faulty : ℕ → Bool) (lists : ℕ → List Batch) (diary : ℕ → List LogEntry)
+        (stated : List Statement) (chosen : List Batch) → WitnessedAlong secret digest_of view_after faulty lists diary stated chosen →
+        (list : List Batch) → AllCertified secret digest_of stated view_after [] list → Exact digest_of list chosen → AreOneList list chosen }
+    // The list of each correct member, of whichever view.
+    ensures members { (secret : List ℕ) (digest_of : Batch → List ℕ) (view_after : List Batch → View) (faulty : ℕ → Bool) (lists : ℕ → List Batch) (diary : ℕ → List LogEntry)
+        (stated : List Statement) (chosen : List Batch) → WitnessedAlong secret digest_of view_after faulty lists diary stated chosen →
+        (made : List Batch) (member : ℕ) → IsCorrect (view_after made) faulty member → AreOneList (lists member) chosen }
+{}
+
+/// Diaries decide one list. Of what two correct members decide, the shorter is a front of the longer.
+///
+/// Each has decided all its places itself, and each entry is made in the view of what the entries before
+/// it decide. In each view along what a correct member decides, few members are faulty.
+pub fn diaries_decide_one_list()
+    ensures { (secret : List ℕ) (digest_of : Batch → List ℕ) (view_after : List Batch → View) (faulty : ℕ → Bool) (diary : ℕ → List LogEntry) (stated : List Statement) →
+        AreCourses secret digest_of view_after faulty diary stated →
+        (made other : List Batch) (one two : ℕ) → IsCorrect (view_after made) faulty one → IsCorrect (view_after other) faulty two →
+        AreOneList (decided_in (diary one)) (decided_in (diary two)) }
+{}
