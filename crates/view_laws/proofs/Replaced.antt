@@ -16,8 +16,10 @@ use Rattle.agreement_laws.specs.Diaries.{IsShown}
 use Rattle.agreement_laws.specs.Law.{IsCorrect, FewFaulty}
 use Rattle.agreement_laws.proofs.Lists.{either, each_among}
 use Rattle.view_laws.specs.Views.{AreNumbered, FewThroughout}
+use Rattle.view_laws.specs.Along.{WitnessedAlong}
 use Rattle.view_laws.specs.Courses.{decided_in, AreMadeIn, AreCourses}
-use Rattle.view_laws.specs.Example.{alone, handed_over, named, nobody, vote, wrote, accept_entry, decided, deciding, replaced_votes, replaced_stated, replaced_diary}
+use Rattle.view_laws.specs.Example.{alone, handed_over, plain, asked, named, nobody, vote, wrote, accept_entry, decided, deciding, replaced_votes, replaced_stated, replaced_diary}
+use Rattle.view_laws.proofs.Courses.{chosen_by}
 use Rattle.view_laws.proofs.Votes.{its_member, few_alone, sole, votes_closed, IsFine, wrote_shown, accepted_shown, push, first_lawful, IsEither, exact_by}
 
 pub over_numbered : AreNumbered handed_over
@@ -30,7 +32,7 @@ few_over : (list : List Batch) → FewFaulty (handed_over list) nobody
 few_over [] = few_alone 0 1 1
 few_over (x ∷ xs) = few_alone 1 2 2
 
-pub are_correct : IsCorrect (handed_over []) nobody 1 × IsCorrect (handed_over ([] ∷ [])) nobody 2
+pub are_correct : IsCorrect (handed_over []) nobody 1 × IsCorrect (handed_over (plain ∷ [])) nobody 2
 are_correct = (record { within = its_member 0 1 1; correct = refl }, record { within = its_member 1 2 2; correct = refl })
 
 module _ (secret : List ℕ) (request : SignedBy Request) where
@@ -42,23 +44,23 @@ module _ (secret : List ℕ) (request : SignedBy Request) where
 
   -- the entries of the two
   abbrev first : List LogEntry
-  first = deciding secret (alone 0 1 1) 1 [] 1
+  first = deciding secret (alone 0 1 1) 1 plain 1
 
   abbrev second : List LogEntry
-  second = decided secret (alone 0 1 1) 1 [] 1 ∷ deciding secret (alone 1 2 2) 2 (request ∷ []) 2
+  second = decided secret (alone 0 1 1) 1 plain 1 ∷ deciding secret (alone 1 2 2) 2 (asked request) 2
 
   -- ---- their diaries
 
   second_lawful : Lawful 0 0 second
   second_lawful =
-      let learnt = decided secret (alone 0 1 1) 1 [] 1 in
+      let learnt = decided secret (alone 0 1 1) 1 plain 1 in
       let write = wrote (alone 1 2 2) 2 (request ∷ []) in
-      let accepted = Accepted (accept_entry secret (alone 1 2 2) 2 (request ∷ []) 2) in
-      push (learnt ∷ write ∷ accepted ∷ []) _
+      let accepted = Accepted (accept_entry secret (alone 1 2 2) 2 (asked request) 2) in
+      push (learnt ∷ write ∷ accepted ∷ []) (decided secret (alone 1 2 2) 2 (asked request) 2)
       (push (learnt ∷ write ∷ []) accepted (push (learnt ∷ []) write (push [] learnt (none_lawful 0 0) refl) refl) refl) refl
 
   lawful : (member : ℕ) → Lawful 0 0 (diary member)
-  lawful member = either (λ b. Lawful 0 0 b) (member == 1) first second (first_lawful secret 0 1 [] 1) second_lawful
+  lawful member = either (λ b. Lawful 0 0 b) (member == 1) first second (first_lawful secret 0 1 plain 1) second_lawful
 
   abbrev Made : List LogEntry → Type 0
   Made es = AreMadeIn secret named handed_over stated [] es
@@ -91,12 +93,12 @@ module _ (secret : List ℕ) (request : SignedBy Request) where
 
   fine : (member : ℕ) → Each (λ (s : Statement). IsFine diary s member) stated
   fine member = (
-    wrote_shown secret diary (alone 0 1 1) 1 [] 1 member (inl refl),
+    wrote_shown secret diary (alone 0 1 1) 1 plain 1 member (inl refl),
     (
-      accepted_shown secret diary (alone 0 1 1) 1 [] 1 member (inr (inl refl)),
+      accepted_shown secret diary (alone 0 1 1) 1 plain 1 member (inr (inl refl)),
       (
-        wrote_shown secret diary (alone 1 2 2) 2 (request ∷ []) 2 member (inr (inl refl)),
-        (accepted_shown secret diary (alone 1 2 2) 2 (request ∷ []) 2 member (inr (inr (inl refl))), tt),
+        wrote_shown secret diary (alone 1 2 2) 2 (asked request) 2 member (inr (inl refl)),
+        (accepted_shown secret diary (alone 1 2 2) 2 (asked request) 2 member (inr (inr (inl refl))), tt),
       ),
     ),
   )
@@ -118,3 +120,8 @@ module _ (secret : List ℕ) (request : SignedBy Request) where
     exact = λ batches other one two left right. exact_by request (decided_in (diary one)) (decided_in (diary two)) (lists one) (lists two);
     closed = votes_closed secret (replaced_votes secret request);
   }
+
+  -- so what is stated is witnessed along the list of the second
+  pub replaced_along : WitnessedAlong secret named handed_over nobody (λ (member : ℕ). decided_in (replaced_diary secret request member)) (replaced_diary secret request)
+      (replaced_stated secret request) (plain ∷ asked request ∷ [])
+  replaced_along = chosen_by secret named handed_over nobody diary stated replaced_courses (plain ∷ []) 2 are_correct.1

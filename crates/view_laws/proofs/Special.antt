@@ -13,14 +13,6 @@ use Rattle.view_laws.specs.Along.{IsBackedAlong, WitnessedAlong}
 use Rattle.view_laws.proofs.Along.{listed}
 use Rattle.view_laws.proofs.Fronts.{front_itself}
 
--- the view is the same whatever the batches are
-abbrev pub always : View → List Batch → View
-always view front = view
-
--- no member has a list
-abbrev pub none : ℕ → List Batch
-none member = []
-
 pub one_view : (secret : List ℕ) (digest_of : Batch → List ℕ) (view : View) (faulty : ℕ → Bool) (diary : ℕ → List LogEntry) (stated : List Statement)
     → Witnessed secret digest_of view faulty diary stated → (chosen : List Batch) → AllCertified secret digest_of stated (λ front. view) [] chosen
     → WitnessedAlong secret digest_of (λ front. view) faulty (λ member. []) diary stated chosen

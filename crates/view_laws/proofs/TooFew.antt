@@ -15,21 +15,24 @@ use Rattle.agreement_laws.specs.Lists.{AllCertified, Exact}
 use Rattle.agreement_laws.proofs.Lists.{each_among}
 use Rattle.view_laws.specs.Views.{AreOneList}
 use Rattle.view_laws.specs.Along.{IsBackedAlong, AreKept}
-use Rattle.view_laws.specs.Example.{alone, handed_over, named, is_second, vote, deciding, faulty_votes, faulty_stated}
+use Rattle.view_laws.specs.Example.{alone, handed_over, plain, asked, named, is_second, vote, deciding, faulty_votes, faulty_stated}
 use Rattle.view_laws.proofs.Fronts.{front_more}
 use Rattle.view_laws.proofs.Votes.{sole, votes_closed, IsFine, wrote_shown, accepted_shown, first_lawful, IsEither, exact_by}
 use Rattle.view_laws.proofs.Replaced.{over_numbered}
 
 -- ---- two lists
 
-pub two_exact : (request : SignedBy Request) → Exact named ([] ∷ (request ∷ []) ∷ []) ([] ∷ [] ∷ [])
-two_exact request = exact_by request ([] ∷ (request ∷ []) ∷ []) ([] ∷ [] ∷ []) (inl refl, (inr refl, tt)) (inl refl, (inl refl, tt))
+pub two_exact : (request : SignedBy Request) → Exact named (plain ∷ asked request ∷ []) (plain ∷ plain ∷ [])
+two_exact request = exact_by request (plain ∷ asked request ∷ []) (plain ∷ plain ∷ []) (inl refl, (inr refl, tt)) (inl refl, (inl refl, tt))
 
-other_batch : (request : SignedBy Request) (rest : List Batch) → [] ∷ [] ∷ [] ≡ [] ∷ (request ∷ []) ∷ rest → ⊥
-other_batch request rest same = let tails : [] ∷ [] ≡ (request ∷ []) ∷ rest = cc in let heads : [] ≡ request ∷ [] = cc in absurd (cc)
+no_request : (q : SignedBy Request) (qs : Batch) → [] ≡ q ∷ qs → ⊥
+no_request q qs same = cc
 
-pub are_two : (request : SignedBy Request) → AreOneList ([] ∷ (request ∷ []) ∷ []) ([] ∷ [] ∷ []) → ⊥
-are_two request one = let front = one.shorter (omega arith) in other_batch request front.rest front.is
+second_batches : (x y : Batch) (xs : List Batch) → plain ∷ x ∷ [] ≡ plain ∷ y ∷ xs → x ≡ y
+second_batches x y xs same = let tails : x ∷ [] ≡ y ∷ xs = cc in cc
+
+pub are_two : (request : SignedBy Request) → AreOneList (plain ∷ asked request ∷ []) (plain ∷ plain ∷ []) → ⊥
+are_two request one = let front = one.shorter (omega arith) in no_request request [] (second_batches plain (asked request) front.rest front.is)
 
 -- ---- what the law asks besides
 
@@ -41,7 +44,7 @@ module _ (secret : List ℕ) (request : SignedBy Request) where
   stated = faulty_stated secret request
 
   abbrev first : List LogEntry
-  first = deciding secret (alone 0 1 1) 1 [] 1
+  first = deciding secret (alone 0 1 1) 1 plain 1
 
   abbrev diary : ℕ → List LogEntry
   diary member = first
@@ -56,9 +59,9 @@ module _ (secret : List ℕ) (request : SignedBy Request) where
 
   fine : (member : ℕ) → is_second member ≡ false → Each (λ (s : Statement). IsFine diary s member) stated
   fine member correct = (
-    wrote_shown secret diary (alone 0 1 1) 1 [] 1 member (inl refl),
+    wrote_shown secret diary (alone 0 1 1) 1 plain 1 member (inl refl),
     (
-      accepted_shown secret diary (alone 0 1 1) 1 [] 1 member (inr (inl refl)),
+      accepted_shown secret diary (alone 0 1 1) 1 plain 1 member (inr (inl refl)),
       (
         by_second (Voted (vote secret (alone 1 2 2) 2 Accept [] 2)) member refl correct,
         (by_second (Voted (vote secret (alone 1 2 2) 2 Accept (1 ∷ []) 2)) member refl correct, tt),
@@ -66,20 +69,20 @@ module _ (secret : List ℕ) (request : SignedBy Request) where
     ),
   )
 
-  backed : Each (IsBackedAlong secret named handed_over stated ([] ∷ [])) first
+  backed : Each (IsBackedAlong secret named handed_over stated (plain ∷ [])) first
   backed = (
-    λ made of_view. record { front = []; is_front = front_more [] ([] ∷ []); of_view = tt; backed = tt },
+    λ made of_view. record { front = []; is_front = front_more [] (plain ∷ []); of_view = tt; backed = tt },
     (
-      λ made of_view. record { front = []; is_front = front_more [] ([] ∷ []); of_view = refl; backed = λ is. sole secret 0 1 1 1 Write [] stated (inl refl) },
+      λ made of_view. record { front = []; is_front = front_more [] (plain ∷ []); of_view = refl; backed = λ is. sole secret 0 1 1 1 Write [] stated (inl refl) },
       (
-        λ made of_view. record { front = []; is_front = front_more [] ([] ∷ []); of_view = refl; backed = λ is. sole secret 0 1 1 1 Accept [] stated (inr (inl refl)) },
+        λ made of_view. record { front = []; is_front = front_more [] (plain ∷ []); of_view = refl; backed = λ is. sole secret 0 1 1 1 Accept [] stated (inr (inl refl)) },
         tt,
       ),
     ),
   )
 
   -- the first batch, before others
-  certified_first : (rest : List Batch) → AllCertified secret named stated handed_over ([] ∷ []) rest → AllCertified secret named stated handed_over [] ([] ∷ rest)
+  certified_first : (rest : List Batch) → AllCertified secret named stated handed_over (plain ∷ []) rest → AllCertified secret named stated handed_over [] ([] ∷ rest)
   certified_first rest all = (
     record {
       regency = 0;
@@ -89,9 +92,9 @@ module _ (secret : List ℕ) (request : SignedBy Request) where
     all,
   )
 
-  certified_one : AllCertified secret named stated handed_over [] ([] ∷ [] ∷ [])
+  certified_one : AllCertified secret named stated handed_over [] (plain ∷ plain ∷ [])
   certified_one =
-      certified_first ([] ∷ []) (
+      certified_first (plain ∷ []) (
         record {
           regency = 0;
           accepts = vote secret (alone 1 2 2) 2 Accept [] 2 ∷ [];
@@ -100,9 +103,9 @@ module _ (secret : List ℕ) (request : SignedBy Request) where
         tt,
       )
 
-  pub certified_other : AllCertified secret named (faulty_stated secret request) handed_over [] ([] ∷ (request ∷ []) ∷ [])
+  pub certified_other : AllCertified secret named (faulty_stated secret request) handed_over [] (plain ∷ asked request ∷ [])
   certified_other =
-      certified_first ((request ∷ []) ∷ []) (
+      certified_first (asked request ∷ []) (
         record {
           regency = 0;
           accepts = vote secret (alone 1 2 2) 2 Accept (1 ∷ []) 2 ∷ [];
@@ -111,14 +114,14 @@ module _ (secret : List ℕ) (request : SignedBy Request) where
         tt,
       )
 
-  pub all_kept : AreKept secret named handed_over is_second (λ member. [] ∷ []) (λ member. deciding secret (alone 0 1 1) 1 [] 1) (faulty_stated secret request) ([] ∷ [] ∷ [])
+  pub all_kept : AreKept secret named handed_over is_second (λ member. plain ∷ []) (λ member. deciding secret (alone 0 1 1) 1 plain 1) (faulty_stated secret request) (plain ∷ plain ∷ [])
   all_kept = record {
     numbered = over_numbered;
     certified = certified_one;
     members = λ made member correct. record {
       certified = certified_first [] tt;
-      exact = exact_by request ([] ∷ []) ([] ∷ [] ∷ []) (inl refl, tt) (inl refl, (inl refl, tt));
-      lawful = first_lawful secret 0 1 [] 1;
+      exact = exact_by request (plain ∷ []) (plain ∷ plain ∷ []) (inl refl, tt) (inl refl, (inl refl, tt));
+      lawful = first_lawful secret 0 1 plain 1;
       backed = backed;
       shown = λ statement there signed. each_among (λ (s : Statement). IsFine diary s member) stated statement (fine member correct.correct) there signed;
     };

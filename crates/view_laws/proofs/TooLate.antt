@@ -16,19 +16,22 @@ use Rattle.agreement_laws.specs.Law.{IsCorrect, FewFaulty, Witnessed}
 use Rattle.agreement_laws.specs.Lists.{Exact}
 use Rattle.agreement_laws.proofs.Lists.{either, each_among}
 use Rattle.view_laws.specs.Views.{AreNumbered, AreOneList}
-use Rattle.view_laws.specs.Example.{alone, handed_to, named, nobody, vote, deciding, late_votes, late_stated, late_diary, AllCertifiedLate}
+use Rattle.view_laws.specs.Example.{alone, handed_to, plain, asked, named, nobody, vote, deciding, late_votes, late_stated, late_diary, AllCertifiedLate}
 use Rattle.view_laws.proofs.Votes.{no_other, few_alone, sole, votes_closed, IsFine, wrote_shown, accepted_shown, first_lawful, IsEither, exact_by}
 
 -- ---- two lists
 
-pub late_exact : (request : SignedBy Request) → Exact named ([] ∷ []) ((request ∷ []) ∷ [])
-late_exact request = exact_by request ([] ∷ []) ((request ∷ []) ∷ []) (inl refl, tt) (inr refl, tt)
+pub late_exact : (request : SignedBy Request) → Exact named (plain ∷ []) (asked request ∷ [])
+late_exact request = exact_by request (plain ∷ []) (asked request ∷ []) (inl refl, tt) (inr refl, tt)
 
-other_batch : (request : SignedBy Request) (rest : List Batch) → (request ∷ []) ∷ [] ≡ [] ∷ rest → ⊥
-other_batch request rest same = let heads : request ∷ [] ≡ [] = cc in absurd (cc)
+some_request : (q : SignedBy Request) (qs : Batch) → q ∷ qs ≡ [] → ⊥
+some_request q qs same = cc
 
-pub late_two : (request : SignedBy Request) → AreOneList ([] ∷ []) ((request ∷ []) ∷ []) → ⊥
-late_two request one = let front = one.shorter (omega arith) in other_batch request front.rest front.is
+first_batches : (x y : Batch) (xs : List Batch) → x ∷ [] ≡ y ∷ xs → x ≡ y
+first_batches x y xs same = cc
+
+pub late_two : (request : SignedBy Request) → AreOneList (plain ∷ []) (asked request ∷ []) → ⊥
+late_two request one = let front = one.shorter (omega arith) in some_request request [] (first_batches (asked request) plain front.rest front.is)
 
 -- ---- views by number
 
@@ -60,22 +63,22 @@ module _ (secret : List ℕ) (request : SignedBy Request) where
 
   -- the entries of the two
   abbrev second : List LogEntry
-  second = deciding secret (alone 1 2 2) 1 [] 2
+  second = deciding secret (alone 1 2 2) 1 plain 2
 
   abbrev third : List LogEntry
-  third = deciding secret (alone 1 2 3) 1 (request ∷ []) 3
+  third = deciding secret (alone 1 2 3) 1 (asked request) 3
 
   lawful : (member : ℕ) → Lawful 0 0 (diary member)
   lawful member = either (λ b. Lawful 0 0 b) (member == 2) second third (first_lawful secret 1 2 [] 2) (first_lawful secret 1 2 (request ∷ []) 3)
 
   fine : (member : ℕ) → Each (λ (s : Statement). IsFine diary s member) stated
   fine member = (
-    wrote_shown secret diary (alone 1 2 2) 1 [] 2 member (inl refl),
+    wrote_shown secret diary (alone 1 2 2) 1 plain 2 member (inl refl),
     (
-      accepted_shown secret diary (alone 1 2 2) 1 [] 2 member (inr (inl refl)),
+      accepted_shown secret diary (alone 1 2 2) 1 plain 2 member (inr (inl refl)),
       (
-        wrote_shown secret diary (alone 1 2 3) 1 (request ∷ []) 3 member (inl refl),
-        (accepted_shown secret diary (alone 1 2 3) 1 (request ∷ []) 3 member (inr (inl refl)), tt),
+        wrote_shown secret diary (alone 1 2 3) 1 (asked request) 3 member (inl refl),
+        (accepted_shown secret diary (alone 1 2 3) 1 (asked request) 3 member (inr (inl refl)), tt),
       ),
     ),
   )
@@ -121,13 +124,13 @@ module _ (secret : List ℕ) (request : SignedBy Request) where
 
   -- ---- two decisions
 
-  pub late_left : AllCertifiedLate secret named (late_stated secret request) handed_to [] ([] ∷ [])
+  pub late_left : AllCertifiedLate secret named (late_stated secret request) handed_to [] (plain ∷ [])
   late_left = (
     record { regency = 0; accepts = vote secret (alone 1 2 2) 1 Accept [] 2 ∷ []; decision = sole secret 1 2 2 1 Accept [] stated (inr (inl refl)) },
     tt,
   )
 
-  pub late_right : AllCertifiedLate secret named (late_stated secret request) handed_to [] ((request ∷ []) ∷ [])
+  pub late_right : AllCertifiedLate secret named (late_stated secret request) handed_to [] (asked request ∷ [])
   late_right = (
     record {
       regency = 0;

@@ -1,5 +1,5 @@
 -- What members of the examples state, and what their diaries show of it.
-use Rattle.std.proofs.Common.{◌≡◌, ◌⊎◌, inl, inr, ⊎_elim, ℕ, ◌+◌, ◌==◌, Bool, true, false, List, [], ◌∷◌, ◌++◌, map, length, refl, sym, subst, ◌∙◌, arith, eq-eqb, eqb-true, ◌||◌}
+use Rattle.std.proofs.Common.{◌≡◌, ◌⊎◌, inl, inr, ⊎_elim, ℕ, ◌+◌, ◌==◌, Bool, true, false, List, [], ◌∷◌, ◌++◌, map, length, refl, ap, sym, subst, ◌∙◌, arith, eq-eqb, eqb-true, ◌||◌}
 use Rattle.std.proofs.lemmas.Bool.{or_left}
 use Rattle.smart_base.specs.Lists.{Each}
 use Rattle.smart_base.specs.Views.{View, is_member}
@@ -25,7 +25,7 @@ use Rattle.agreement_laws.specs.Certificates.{IsDrawn}
 use Rattle.agreement_laws.specs.Law.{IsCorrect, FewFaulty}
 use Rattle.agreement_laws.specs.Lists.{Exact}
 use Rattle.agreement_laws.proofs.Lists.{each_among, given, or_true}
-use Rattle.view_laws.specs.Example.{alone, named, nobody, ballot_of, vote, wrote, accept_entry, deciding}
+use Rattle.view_laws.specs.Example.{alone, plain, asked, named, nobody, ballot_of, vote, wrote, accept_entry, decided, deciding}
 
 -- ---- a view of one member
 
@@ -99,21 +99,23 @@ push book e lawful is = grows 0 0 book e lawful (admitted 0 0 book e is)
 pub first_lawful : (secret : List ℕ) (number start : ℕ) (batch : Batch) (member : ℕ) → Lawful 0 0 (deciding secret (alone number start member) 1 batch member)
 first_lawful secret number start batch member =
     let view = alone number start member in
-    push (wrote view 1 batch ∷ Accepted (accept_entry secret view 1 batch member) ∷ []) _
+    push (wrote view 1 batch ∷ Accepted (accept_entry secret view 1 batch member) ∷ []) (decided secret view 1 batch member)
     (push (wrote view 1 batch ∷ []) (Accepted (accept_entry secret view 1 batch member)) (push [] (wrote view 1 batch) (none_lawful 0 0) refl) refl) refl
 
 -- ---- two batches, whose names tell them apart
 
 abbrev pub IsEither : SignedBy Request → Batch → Type 0
-IsEither request batch = (batch ≡ []) ⊎ (batch ≡ request ∷ [])
+IsEither request batch = (batch ≡ plain) ⊎ (batch ≡ asked request)
+
+-- two names that differ
+names_differ : [] ≡ 1 ∷ [] → ⊥
+names_differ same = cc
 
 apart : (request : SignedBy Request) (a b : Batch) → IsEither request a → IsEither request b → named a ≡ named b → a ≡ b
 apart request a b (inl one) (inl two) same = one ∙ sym two
 apart request a b (inr one) (inr two) same = one ∙ sym two
-apart request a b (inl one) (inr two) same =
-    let names : [] ≡ 1 ∷ [] = subst (λ (x : Batch). [] ≡ named x) two (subst (λ (x : Batch). named x ≡ named b) one same) in absurd (cc)
-apart request a b (inr one) (inl two) same =
-    let names : 1 ∷ [] ≡ [] = subst (λ (x : Batch). 1 ∷ [] ≡ named x) two (subst (λ (x : Batch). named x ≡ named b) one same) in absurd (cc)
+apart request a b (inl one) (inr two) same = absurd (names_differ (sym (ap named one) ∙ (same ∙ ap named two)))
+apart request a b (inr one) (inl two) same = absurd (names_differ (sym (ap named two) ∙ (sym same ∙ ap named one)))
 
 pub exact_by : (request : SignedBy Request) (xs ys : List Batch) → Each (IsEither request) xs → Each (IsEither request) ys → Exact named xs ys
 exact_by request xs ys left right = record {

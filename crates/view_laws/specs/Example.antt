@@ -33,6 +33,13 @@ handed_to [] = alone 0 1 1
 handed_to ([] ∷ batches) = alone 1 2 2
 handed_to ((q ∷ qs) ∷ batches) = alone 1 2 3
 
+-- a batch without a request, and one with a request
+abbrev pub plain : Batch
+plain = []
+
+abbrev pub asked : SignedBy Request → Batch
+asked request = request ∷ []
+
 -- names of batches, which tell those with a request from the one without
 abbrev pub named : Batch → List ℕ
 named [] = []
@@ -74,23 +81,23 @@ deciding secret view place batch member =
 
 -- The first member decides the first batch, which hands over. The second member learns that decision, and decides the next batch.
 abbrev pub replaced_votes : List ℕ → SignedBy Request → List (SignedBy Ballot)
-replaced_votes secret request = both_votes secret (alone 0 1 1) 1 [] 1 ++ both_votes secret (alone 1 2 2) 2 (request ∷ []) 2
+replaced_votes secret request = both_votes secret (alone 0 1 1) 1 plain 1 ++ both_votes secret (alone 1 2 2) 2 (asked request) 2
 
 abbrev pub replaced_stated : List ℕ → SignedBy Request → List Statement
 replaced_stated secret request = map Voted (replaced_votes secret request)
 
 abbrev pub replaced_diary : List ℕ → SignedBy Request → ℕ → List LogEntry
 replaced_diary secret request member =
-    if member == 1 then deciding secret (alone 0 1 1) 1 [] 1
-    else decided secret (alone 0 1 1) 1 [] 1 ∷ deciding secret (alone 1 2 2) 2 (request ∷ []) 2
+    if member == 1 then deciding secret (alone 0 1 1) 1 plain 1
+    else decided secret (alone 0 1 1) 1 plain 1 ∷ deciding secret (alone 1 2 2) 2 (asked request) 2
 
 -- ---- a group whose second view has too many faulty members
 
 -- The second member is faulty, and accepts two batches in its view.
 abbrev pub faulty_votes : List ℕ → SignedBy Request → List (SignedBy Ballot)
 faulty_votes secret request =
-    both_votes secret (alone 0 1 1) 1 [] 1
-    ++ vote secret (alone 1 2 2) 2 Accept (named []) 2 ∷ vote secret (alone 1 2 2) 2 Accept (named (request ∷ [])) 2 ∷ []
+    both_votes secret (alone 0 1 1) 1 plain 1
+    ++ vote secret (alone 1 2 2) 2 Accept (named plain) 2 ∷ vote secret (alone 1 2 2) 2 Accept (named (asked request)) 2 ∷ []
 
 abbrev pub faulty_stated : List ℕ → SignedBy Request → List Statement
 faulty_stated secret request = map Voted (faulty_votes secret request)
@@ -99,14 +106,14 @@ faulty_stated secret request = map Voted (faulty_votes secret request)
 
 -- The second and the third member each decide a first batch, in the view that it makes.
 abbrev pub late_votes : List ℕ → SignedBy Request → List (SignedBy Ballot)
-late_votes secret request = both_votes secret (alone 1 2 2) 1 [] 2 ++ both_votes secret (alone 1 2 3) 1 (request ∷ []) 3
+late_votes secret request = both_votes secret (alone 1 2 2) 1 plain 2 ++ both_votes secret (alone 1 2 3) 1 (asked request) 3
 
 abbrev pub late_stated : List ℕ → SignedBy Request → List Statement
 late_stated secret request = map Voted (late_votes secret request)
 
 abbrev pub late_diary : List ℕ → SignedBy Request → ℕ → List LogEntry
 late_diary secret request member =
-    if member == 2 then deciding secret (alone 1 2 2) 1 [] 2 else deciding secret (alone 1 2 3) 1 (request ∷ []) 3
+    if member == 2 then deciding secret (alone 1 2 2) 1 plain 2 else deciding secret (alone 1 2 3) 1 (asked request) 3
 
 -- batches behind a front, each certified for its place in the view that it makes itself; in `AllCertified` it is that of the batches before it
 abbrev pub AllCertifiedLate : List ℕ → (Batch → List ℕ) → List Statement → (List Batch → View) → List Batch → List Batch → Type 0
