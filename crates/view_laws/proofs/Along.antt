@@ -16,7 +16,7 @@ use Rattle.agreement_laws.specs.Lists.{IsNextOf, AllCertified, Exact}
 use Rattle.agreement_laws.proofs.Lists.{among_right}
 use Rattle.agreement_laws.proofs.Regencies.{decided_once}
 use Rattle.view_laws.specs.Views.{view_at, AreOneList}
-use Rattle.view_laws.specs.Along.{IsBackedAlong, KeepsTo, WitnessedAlong}
+use Rattle.view_laws.specs.Along.{IsBackedAlong, WitnessedAlong}
 use Rattle.view_laws.proofs.Fronts.{Fronts, front_itself, front_more, front_through, front_take, one_list_of}
 
 module _ (secret : List ℕ) (digest_of : Batch → List ℕ) (view_after : List Batch → View) (stated : List Statement) where

@@ -1,12 +1,11 @@
 -- Members that have decided each place themselves decide one list.
-use Rattle.std.proofs.Common.{◌≡◌, ℕ, ◌+◌, Bool, List, [], ◌∷◌, ◌++◌, length, refl, ap, sym, subst, ◌∙◌, append-nil, append_assoc}
+use Rattle.std.proofs.Common.{◌≡◌, ℕ, ◌+◌, Bool, List, [], ◌∷◌, ◌++◌, refl, ap, sym, subst, ◌∙◌, append-nil, append_assoc}
 use Rattle.smart_base.specs.Views.{View}
 use Rattle.smart_statements.specs.Batches.{Batch}
 use Rattle.vote_book.specs.declared.entry.Decision.{Decision}
 use Rattle.vote_book.specs.declared.entry.LogEntry.{LogEntry}
 use Rattle.vote_book.specs.declared.entry.LogEntry.TheVariants.{Opened, Wrote, Accepted, Promised, Synced, Decided, Installed, Marked}
 use Rattle.vote_book.specs.Books.{Among}
-use Rattle.agreement_laws.specs.Fronts.{IsFront}
 use Rattle.agreement_laws.specs.Statements.{Statement}
 use Rattle.agreement_laws.specs.Certificates.{IsDecision}
 use Rattle.agreement_laws.specs.Law.{IsCorrect}
@@ -14,7 +13,7 @@ use Rattle.agreement_laws.specs.Lists.{IsNextOf, AllCertified, Exact}
 use Rattle.agreement_laws.proofs.Lists.{each_from}
 use Rattle.view_laws.specs.Views.{AreOneList}
 use Rattle.view_laws.specs.Along.{IsBackedAfter, IsBackedAlong, KeepsTo, WitnessedAlong}
-use Rattle.view_laws.specs.Courses.{with_decided, decided_in, IsMadeIn, AreMadeIn, TakesCourse, AreCourses}
+use Rattle.view_laws.specs.Courses.{with_decided, decided_in, IsMadeIn, AreMadeIn, AreCourses}
 use Rattle.view_laws.proofs.Along.{listed}
 use Rattle.view_laws.proofs.Fronts.{front_more}
 

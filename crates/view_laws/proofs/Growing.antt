@@ -10,13 +10,13 @@ use Rattle.vote_book.specs.Books.{Among, Lawful}
 use Rattle.agreement_laws.specs.Fronts.{IsFront}
 use Rattle.agreement_laws.specs.Statements.{Statement, signer_of, within, verifies}
 use Rattle.agreement_laws.specs.Diaries.{IsShown}
-use Rattle.agreement_laws.specs.Law.{IsCorrect, FewFaulty}
+use Rattle.agreement_laws.specs.Law.{IsCorrect}
 use Rattle.agreement_laws.specs.Lists.{AllCertified, Exact}
 use Rattle.agreement_laws.proofs.Growing.{IsBacked-more, IsShown-front}
 use Rattle.agreement_laws.proofs.Lists.{among_left, among_either}
 use Rattle.agreement_laws.proofs.OneList.{certified_more}
 use Rattle.view_laws.specs.Views.{AreNumbered, FewThroughout}
-use Rattle.view_laws.specs.Along.{IsBackedAfter, IsBackedAlong, KeepsTo, AreKept, WitnessedAlong}
+use Rattle.view_laws.specs.Along.{IsBackedAfter, IsBackedAlong, WitnessedAlong}
 use Rattle.view_laws.proofs.Fronts.{front_through}
 
 module _ (secret : List ℕ) (digest_of : Batch → List ℕ) (view_after : List Batch → View) where

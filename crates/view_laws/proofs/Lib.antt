@@ -1,8 +1,9 @@
 mod Fronts
 pub mod Along
-mod Special
+mod OneView
 mod Growing
 mod Courses
+mod Rows
 mod Votes
 mod Replaced
 mod TooFew

@@ -1,24 +1,21 @@
 -- A group of one member that is replaced by another meets what the laws ask.
-use Rattle.std.proofs.Common.{◌≡◌, inl, inr, ℕ, ◌==◌, Bool, true, false, List, [], ◌∷◌, ◌++◌, refl, sym, subst, arith}
+use Rattle.std.proofs.Common.{◌≡◌, inl, inr, ℕ, ◌==◌, List, [], ◌∷◌, refl, arith}
 use Rattle.smart_base.specs.Lists.{Each}
-use Rattle.smart_base.specs.declared.party.Party.TheVariants.{Member}
 use Rattle.smart_statements.specs.Forms.{SignedBy}
 use Rattle.smart_statements.specs.Batches.{Batch}
 use Rattle.smart_statements.specs.declared.statement.Request.{Request}
 use Rattle.smart_statements.specs.declared.statement.VoteKind.TheVariants.{Write, Accept}
 use Rattle.vote_book.specs.declared.entry.LogEntry.{LogEntry}
 use Rattle.vote_book.specs.declared.entry.LogEntry.TheVariants.{Accepted}
-use Rattle.vote_book.specs.Books.{Among, Lawful}
+use Rattle.vote_book.specs.Books.{Lawful}
 use Rattle.vote_book.proofs.Growth.{none_lawful}
-use Rattle.agreement_laws.specs.Fronts.{IsFront}
-use Rattle.agreement_laws.specs.Statements.{Statement, Voted, signer_of}
-use Rattle.agreement_laws.specs.Diaries.{IsShown}
+use Rattle.agreement_laws.specs.Statements.{Statement}
 use Rattle.agreement_laws.specs.Law.{IsCorrect, FewFaulty}
 use Rattle.agreement_laws.proofs.Lists.{either, each_among}
-use Rattle.view_laws.specs.Views.{AreNumbered, FewThroughout}
+use Rattle.view_laws.specs.Views.{AreNumbered}
 use Rattle.view_laws.specs.Along.{WitnessedAlong}
 use Rattle.view_laws.specs.Courses.{decided_in, AreMadeIn, AreCourses}
-use Rattle.view_laws.specs.Example.{alone, handed_over, plain, asked, named, nobody, vote, wrote, accept_entry, decided, deciding, replaced_votes, replaced_stated, replaced_diary}
+use Rattle.view_laws.specs.Example.{alone, handed_over, plain, asked, named, nobody, wrote, accept_entry, decided, deciding, replaced_votes, replaced_stated, replaced_diary}
 use Rattle.view_laws.proofs.Courses.{chosen_by}
 use Rattle.view_laws.proofs.Votes.{its_member, few_alone, sole, votes_closed, IsFine, wrote_shown, accepted_shown, push, first_lawful, IsEither, exact_by}
 

@@ -1,5 +1,5 @@
 -- Where few members of the first view are faulty, but the one of the second view is, there may be two lists.
-use Rattle.std.proofs.Common.{◌≡◌, inl, inr, ℕ, ◌==◌, ◌≤◌, Bool, true, false, List, [], ◌∷◌, ◌++◌, length, refl, sym, ap, subst, ◌∙◌, arith}
+use Rattle.std.proofs.Common.{◌≡◌, inl, inr, ℕ, false, List, [], ◌∷◌, refl, sym, subst, ◌∙◌, arith}
 use Rattle.smart_base.specs.Lists.{Each}
 use Rattle.smart_base.specs.declared.party.Party.TheVariants.{Member}
 use Rattle.smart_statements.specs.Forms.{SignedBy}
@@ -7,17 +7,15 @@ use Rattle.smart_statements.specs.Batches.{Batch}
 use Rattle.smart_statements.specs.declared.statement.Request.{Request}
 use Rattle.smart_statements.specs.declared.statement.VoteKind.TheVariants.{Write, Accept}
 use Rattle.vote_book.specs.declared.entry.LogEntry.{LogEntry}
-use Rattle.vote_book.specs.Books.{Among}
-use Rattle.agreement_laws.specs.Fronts.{IsFront}
 use Rattle.agreement_laws.specs.Statements.{Statement, Voted, signer_of}
-use Rattle.agreement_laws.specs.Law.{IsCorrect, FewFaulty}
+use Rattle.agreement_laws.specs.Law.{FewFaulty}
 use Rattle.agreement_laws.specs.Lists.{AllCertified, Exact}
 use Rattle.agreement_laws.proofs.Lists.{each_among}
 use Rattle.view_laws.specs.Views.{AreOneList}
 use Rattle.view_laws.specs.Along.{IsBackedAlong, AreKept}
 use Rattle.view_laws.specs.Example.{alone, handed_over, plain, asked, named, is_second, vote, deciding, faulty_votes, faulty_stated}
 use Rattle.view_laws.proofs.Fronts.{front_more}
-use Rattle.view_laws.proofs.Votes.{sole, votes_closed, IsFine, wrote_shown, accepted_shown, first_lawful, IsEither, exact_by}
+use Rattle.view_laws.proofs.Votes.{sole, votes_closed, IsFine, wrote_shown, accepted_shown, first_lawful, exact_by}
 use Rattle.view_laws.proofs.Replaced.{over_numbered}
 
 -- ---- two lists

@@ -1,23 +1,22 @@
 -- Where a decision counts in the view that its own batch makes, there may be two lists, and nobody need be faulty.
-use Rattle.std.proofs.Common.{◌≡◌, inl, inr, ℕ, ◌+◌, ◌==◌, ◌≤◌, Bool, true, false, List, [], ◌∷◌, ◌++◌, length, refl, sym, ap, subst, ◌∙◌, arith}
+use Rattle.std.proofs.Common.{◌≡◌, inl, inr, ℕ, ◌+◌, ◌==◌, List, [], ◌∷◌, ◌++◌, refl, sym, ap, subst, ◌∙◌, arith}
 use Rattle.smart_base.specs.Lists.{Each}
 use Rattle.smart_base.specs.Views.{View}
-use Rattle.smart_base.specs.declared.party.Party.TheVariants.{Member}
 use Rattle.smart_statements.specs.Forms.{SignedBy}
 use Rattle.smart_statements.specs.Batches.{Batch}
 use Rattle.smart_statements.specs.declared.statement.Request.{Request}
 use Rattle.smart_statements.specs.declared.statement.VoteKind.TheVariants.{Write, Accept}
 use Rattle.vote_book.specs.declared.entry.LogEntry.{LogEntry}
-use Rattle.vote_book.specs.Books.{Among, Lawful}
+use Rattle.vote_book.specs.Books.{Lawful}
 use Rattle.agreement_laws.specs.Fronts.{IsFront}
-use Rattle.agreement_laws.specs.Statements.{Statement, Voted, signer_of}
+use Rattle.agreement_laws.specs.Statements.{Statement}
 use Rattle.agreement_laws.specs.Certificates.{IsBacked}
-use Rattle.agreement_laws.specs.Law.{IsCorrect, FewFaulty, Witnessed}
+use Rattle.agreement_laws.specs.Law.{Witnessed}
 use Rattle.agreement_laws.specs.Lists.{Exact}
 use Rattle.agreement_laws.proofs.Lists.{either, each_among}
 use Rattle.view_laws.specs.Views.{AreNumbered, AreOneList}
 use Rattle.view_laws.specs.Example.{alone, handed_to, plain, asked, named, nobody, vote, deciding, late_votes, late_stated, late_diary, AllCertifiedLate}
-use Rattle.view_laws.proofs.Votes.{no_other, few_alone, sole, votes_closed, IsFine, wrote_shown, accepted_shown, first_lawful, IsEither, exact_by}
+use Rattle.view_laws.proofs.Votes.{no_other, few_alone, sole, votes_closed, IsFine, wrote_shown, accepted_shown, first_lawful, exact_by}
 
 -- ---- two lists
 

@@ -1,5 +1,5 @@
 -- What members of the examples state, and what their diaries show of it.
-use Rattle.std.proofs.Common.{◌≡◌, ◌⊎◌, inl, inr, ⊎_elim, ℕ, ◌+◌, ◌==◌, Bool, true, false, List, [], ◌∷◌, ◌++◌, map, length, refl, ap, sym, subst, ◌∙◌, arith, eq-eqb, eqb-true, ◌||◌}
+use Rattle.std.proofs.Common.{◌≡◌, ◌⊎◌, inl, inr, ⊎_elim, ℕ, ◌+◌, ◌==◌, true, false, List, [], ◌∷◌, ◌++◌, map, refl, ap, sym, subst, ◌∙◌, arith, eq-eqb, eqb-true}
 use Rattle.std.proofs.lemmas.Bool.{or_left}
 use Rattle.smart_base.specs.Lists.{Each}
 use Rattle.smart_base.specs.Views.{View, is_member}
@@ -19,10 +19,10 @@ use Rattle.vote_book.specs.Books.{Among, Lawful}
 use Rattle.vote_book.specs.Admission.{admits}
 use Rattle.vote_book.proofs.Growth.{grows, none_lawful}
 use Rattle.vote_book.proofs.Tested.{admitted}
-use Rattle.agreement_laws.specs.Statements.{Statement, Voted, signer_of, within, verifies, IsClosed}
-use Rattle.agreement_laws.specs.Diaries.{IsShown, HasAccepted}
+use Rattle.agreement_laws.specs.Statements.{Statement, Voted, signer_of, within, IsClosed}
+use Rattle.agreement_laws.specs.Diaries.{IsShown}
 use Rattle.agreement_laws.specs.Certificates.{IsDrawn}
-use Rattle.agreement_laws.specs.Law.{IsCorrect, FewFaulty}
+use Rattle.agreement_laws.specs.Law.{FewFaulty}
 use Rattle.agreement_laws.specs.Lists.{Exact}
 use Rattle.agreement_laws.proofs.Lists.{each_among, given, or_true}
 use Rattle.view_laws.specs.Example.{alone, plain, asked, named, nobody, ballot_of, vote, wrote, accept_entry, decided, deciding}

@@ -1,5 +1,5 @@
 -- The views along a list of batches: each is the one that the batches before a place make. Which view a list makes is left open.
-use Rattle.std.specs.Prelude.{ℕ, ◌-◌, ◌≡◌, ◌≤◌, Bool, List, take, length}
+use Rattle.std.specs.Prelude.{ℕ, ◌-◌, ◌≡◌, ◌<◌, ◌≤◌, Bool, List, take, length}
 use Rattle.smart_base.specs.Views.{View}
 use Rattle.smart_statements.specs.Batches.{Batch}
 use Rattle.agreement_laws.specs.Fronts.{IsFront}
@@ -17,6 +17,11 @@ AreNumbered view_after =
 -- few faulty members in each view along a list: in those of its places, and in that of the place behind it
 abbrev pub FewThroughout : (List Batch → View) → (ℕ → Bool) → List Batch → Type 0
 FewThroughout view_after faulty list = (front : List Batch) → IsFront front list → FewFaulty (view_after front) faulty
+
+-- views in a row that are never taken back: those of a front of a list begin those of the list, and there is always one
+pub record AreInARow (views_after : List Batch → List View) : Type 0 where
+  pub some : (list : List Batch) → 0 < length (views_after list)
+  pub more : (front list : List Batch) → IsFront front list → IsFront (views_after front) (views_after list)
 
 -- two lists of which the shorter is a front of the longer
 pub record AreOneList (left right : List Batch) : Type 0 where

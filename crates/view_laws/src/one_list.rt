@@ -1,16 +1,17 @@
 //! One list over several views.
-ghost use Rattle.std.specs.Prelude.{◌≡◌, ℕ, List, [], Bool};
-ghost use Rattle.smart_base.specs.Views.{View};
+ghost use Rattle.std.specs.Prelude.{◌≡◌, ◌≤◌, ℕ, List, [], length, Bool};
+ghost use Rattle.smart_base.specs.Views.{View, present};
 ghost use Rattle.smart_statements.specs.Forms.{SignedBy};
 ghost use Rattle.smart_statements.specs.Batches.{Batch};
 ghost use Rattle.smart_statements.specs.declared.statement.Ballot.{Ballot};
 ghost use Rattle.vote_book.specs.declared.entry.LogEntry.{LogEntry};
+ghost use Rattle.vote_book.specs.Books.{Among};
 ghost use Rattle.agreement_laws.specs.Fronts.{IsFront};
 ghost use Rattle.agreement_laws.specs.Statements.{Statement};
 ghost use Rattle.agreement_laws.specs.Certificates.{IsDecision};
 ghost use Rattle.agreement_laws.specs.Law.{IsCorrect, Witnessed};
 ghost use Rattle.agreement_laws.specs.Lists.{AllCertified, Exact};
-ghost use Rattle.view_laws.specs.Views.{view_at, AreOneList};
+ghost use Rattle.view_laws.specs.Views.{view_at, AreInARow, AreOneList};
 ghost use Rattle.view_laws.specs.Along.{WitnessedAlong};
 ghost use Rattle.view_laws.specs.Courses.{decided_in, AreCourses};
 
@@ -49,6 +50,15 @@ pub fn one_list_over_views()
     ensures members { (secret : List ℕ) (digest_of : Batch → List ℕ) (view_after : List Batch → View) (faulty : ℕ → Bool) (lists : ℕ → List Batch) (diary : ℕ → List LogEntry)
         (stated : List Statement) (chosen : List Batch) → WitnessedAlong secret digest_of view_after faulty lists diary stated chosen →
         (made : List Batch) (member : ℕ) → IsCorrect (view_after made) faulty member → AreOneList (lists member) chosen }
+{}
+
+/// One list, if what has been stated is witnessed in each view of a row: those that the longer list
+/// makes. The view of a place is the last of the views that the batches before it make.
+pub fn views_in_a_row_have_one_list()
+    ensures { (secret : List ℕ) (digest_of : Batch → List ℕ) (views_after : List Batch → List View) (faulty : ℕ → Bool) (diary : ℕ → List LogEntry) (stated : List Statement)
+        (xs ys : List Batch) → AreInARow views_after → ((view : View) → Among view (views_after ys) → Witnessed secret digest_of view faulty diary stated) → Exact digest_of xs ys →
+        AllCertified secret digest_of stated (λ front. present (views_after front)) [] xs → AllCertified secret digest_of stated (λ front. present (views_after front)) [] ys →
+        length xs ≤ length ys → IsFront xs ys }
 {}
 
 /// Diaries decide one list. Of what two correct members decide, the shorter is a front of the longer.

@@ -1,5 +1,5 @@
 //! A group whose view never changes.
-ghost use Rattle.std.specs.Prelude.{◌≡◌, ◌≤◌, ℕ, List, [], Bool, length};
+ghost use Rattle.std.specs.Prelude.{◌≤◌, ℕ, List, [], Bool, length};
 ghost use Rattle.smart_base.specs.Views.{View};
 ghost use Rattle.smart_statements.specs.Batches.{Batch};
 ghost use Rattle.vote_book.specs.declared.entry.LogEntry.{LogEntry};

@@ -1,4 +1,4 @@
-use Rattle.view_laws.proofs.Special.{one_view, one_list_in_one_view}
+use Rattle.view_laws.proofs.OneView.{one_view, one_list_in_one_view}
 use Rattle.view_laws.proofs.special.one_view_is_a_case.Goals as goal
 
 pub returns-clause-witnessed : goal.returns-clause-witnessed

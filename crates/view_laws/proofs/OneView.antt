@@ -1,5 +1,5 @@
 -- A view that never changes: what diaries witness in it they witness along each list.
-use Rattle.std.proofs.Common.{◌≡◌, ℕ, ◌≤◌, Bool, List, [], length, refl}
+use Rattle.std.proofs.Common.{ℕ, ◌≤◌, Bool, List, [], length, refl}
 use Rattle.smart_base.specs.Views.{View}
 use Rattle.smart_statements.specs.Batches.{Batch}
 use Rattle.smart_base.proofs.ViewFacts.{each-weaken}
