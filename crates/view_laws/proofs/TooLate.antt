@@ -88,14 +88,14 @@ module _ (secret : List ℕ) (request : SignedBy Request) where
   Backed view es = Each (IsBacked secret named view stated) es
 
   -- nothing is of the first view
-  none_first : (is : 1 ≡ 0) → ⊥
-  none_first is = absurd (omega (arith, is))
+  none_first : (number : ℕ) → number ≡ 1 → number ≡ 0 → ⊥
+  none_first number one none = absurd (omega (arith, one, none))
 
   second_before : Backed (alone 0 1 1) second
-  second_before = (tt, (λ is. absurd (none_first is), (λ is. absurd (none_first is), tt)))
+  second_before = (tt, (λ is. absurd (none_first 1 refl is), (λ is. absurd (none_first 1 refl is), tt)))
 
   third_before : Backed (alone 0 1 1) third
-  third_before = (tt, (λ is. absurd (none_first is), (λ is. absurd (none_first is), tt)))
+  third_before = (tt, (λ is. absurd (none_first 1 refl is), (λ is. absurd (none_first 1 refl is), tt)))
 
   before : (member : ℕ) → Backed (alone 0 1 1) (diary member)
   before member = either (Backed (alone 0 1 1)) (member == 2) second third second_before third_before

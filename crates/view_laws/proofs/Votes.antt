@@ -108,14 +108,14 @@ abbrev pub IsEither : SignedBy Request → Batch → Type 0
 IsEither request batch = (batch ≡ plain) ⊎ (batch ≡ asked request)
 
 -- two names that differ
-names_differ : [] ≡ 1 ∷ [] → ⊥
-names_differ same = cc
+names_differ : (n : ℕ) → [] ≡ n ∷ [] → ⊥
+names_differ n same = cc
 
 apart : (request : SignedBy Request) (a b : Batch) → IsEither request a → IsEither request b → named a ≡ named b → a ≡ b
 apart request a b (inl one) (inl two) same = one ∙ sym two
 apart request a b (inr one) (inr two) same = one ∙ sym two
-apart request a b (inl one) (inr two) same = absurd (names_differ (sym (ap named one) ∙ (same ∙ ap named two)))
-apart request a b (inr one) (inl two) same = absurd (names_differ (sym (ap named two) ∙ (sym same ∙ ap named one)))
+apart request a b (inl one) (inr two) same = absurd (names_differ 1 (sym (ap named one) ∙ (same ∙ ap named two)))
+apart request a b (inr one) (inl two) same = absurd (names_differ 1 (sym (ap named two) ∙ (sym same ∙ ap named one)))
 
 pub exact_by : (request : SignedBy Request) (xs ys : List Batch) → Each (IsEither request) xs → Each (IsEither request) ys → Exact named xs ys
 exact_by request xs ys left right = record {
