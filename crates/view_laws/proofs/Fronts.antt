@@ -1,5 +1,5 @@
 -- Fronts of lists, and lists of which one is a front of the other.
-use Rattle.std.proofs.Common.{◌≡◌, ◌⊎◌, inl, inr, ℕ, zero, suc, ◌+◌, ◌≤◌, List, [], ◌∷◌, ◌++◌, length, take, refl, ap, sym, ◌∙◌, arith, append-nil, append_assoc, length-append}
+use Rattle.std.proofs.Common.{◌≡◌, ◌⊎◌, inl, inr, ℕ, zero, suc, ◌≤◌, List, [], ◌∷◌, ◌++◌, length, take, refl, ap, sym, ◌∙◌, arith, append-nil, append_assoc, length-append}
 use Rattle.smart_statements.specs.Batches.{Batch}
 use Rattle.agreement_laws.specs.Fronts.{IsFront}
 use Rattle.view_laws.specs.Views.{AreOneList}
