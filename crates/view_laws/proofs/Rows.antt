@@ -1,5 +1,5 @@
--- Lists that are decided in views of a row are one, if what has been stated is witnessed in each of these views.
-use Rattle.std.proofs.Common.{inl, inr, ℕ, ◌<◌, ◌≤◌, Bool, List, [], ◌∷◌, length, refl, sym, subst, arith}
+-- Views in a row: lists that are decided in them are one, if what has been stated is witnessed in each; and their numbers tell them apart.
+use Rattle.std.proofs.Common.{◌≡◌, inl, inr, ℕ, ◌+◌, ◌<◌, ◌≤◌, Bool, List, [], ◌∷◌, ◌++◌, length, refl, ap, sym, subst, ◌∙◌, arith}
 use Rattle.smart_base.specs.Views.{View, present}
 use Rattle.smart_statements.specs.Batches.{Batch}
 use Rattle.vote_book.specs.declared.entry.LogEntry.{LogEntry}
@@ -10,7 +10,7 @@ use Rattle.agreement_laws.specs.Law.{Witnessed}
 use Rattle.agreement_laws.specs.Lists.{AllCertified, Exact}
 use Rattle.agreement_laws.proofs.Lists.{among_left}
 use Rattle.agreement_laws.proofs.OneList.{one_list}
-use Rattle.view_laws.specs.Views.{AreInARow}
+use Rattle.view_laws.specs.Views.{AreNumbered, AreInARow}
 
 present_there : (v : View) (views : List View) → Among (present (v ∷ views)) (v ∷ views)
 present_there v [] = inl refl
@@ -32,3 +32,25 @@ one_list_in_a_row secret digest_of views_after faulty diary stated xs ys row kno
     (λ front left right.
     known (present (views_after front)) (among_front (present (views_after front)) (views_after front) (views_after ys) (row.more front ys right) (present_among (views_after front) (row.some front))))
     exact cx cy le
+
+-- ---- views that are numbered from 0
+
+same_by : (xs ys p q : List View) → xs ++ p ≡ ys ++ q → length xs ≡ length ys → xs ≡ ys
+same_by [] [] p q same count = refl
+same_by [] (y ∷ ys) p q same count = absurd (omega (arith, count))
+same_by (x ∷ xs) [] p q same count = absurd (omega (arith, count))
+same_by (x ∷ xs) (y ∷ ys) p q same count =
+    let head : x ≡ y = cc in
+    let tail : xs ++ p ≡ ys ++ q = cc in
+    let rest : xs ≡ ys = same_by xs ys p q tail (omega (arith, count)) in
+    cc
+
+pub row_numbered : (views_after : List Batch → List View) → AreInARow views_after → ((list : List Batch) → (present (views_after list)).number + 1 ≡ length (views_after list))
+    → AreNumbered (λ list. present (views_after list))
+row_numbered views_after row count one two list left right same =
+    let numbers : (present (views_after one)).number ≡ (present (views_after two)).number = same in
+    let first = count one in
+    let second = count two in
+    let fronts = row.more one list left in
+    let others = row.more two list right in
+    ap present (same_by (views_after one) (views_after two) fronts.rest others.rest (sym fronts.is ∙ others.is) (omega (arith, numbers, first, second)))

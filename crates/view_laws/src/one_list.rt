@@ -1,5 +1,5 @@
 //! One list over several views.
-ghost use Rattle.std.specs.Prelude.{◌≡◌, ◌≤◌, ℕ, List, [], length, Bool};
+ghost use Rattle.std.specs.Prelude.{◌≡◌, ◌≤◌, ℕ, ◌+◌, List, [], length, Bool};
 ghost use Rattle.smart_base.specs.Views.{View, present};
 ghost use Rattle.smart_statements.specs.Forms.{SignedBy};
 ghost use Rattle.smart_statements.specs.Batches.{Batch};
@@ -11,7 +11,7 @@ ghost use Rattle.agreement_laws.specs.Statements.{Statement};
 ghost use Rattle.agreement_laws.specs.Certificates.{IsDecision};
 ghost use Rattle.agreement_laws.specs.Law.{IsCorrect, Witnessed};
 ghost use Rattle.agreement_laws.specs.Lists.{AllCertified, Exact};
-ghost use Rattle.view_laws.specs.Views.{view_at, AreInARow, AreOneList};
+ghost use Rattle.view_laws.specs.Views.{view_at, AreNumbered, AreInARow, AreOneList};
 ghost use Rattle.view_laws.specs.Along.{WitnessedAlong};
 ghost use Rattle.view_laws.specs.Courses.{decided_in, AreCourses};
 
@@ -59,6 +59,13 @@ pub fn views_in_a_row_have_one_list()
         (xs ys : List Batch) → AreInARow views_after → ((view : View) → Among view (views_after ys) → Witnessed secret digest_of view faulty diary stated) → Exact digest_of xs ys →
         AllCertified secret digest_of stated (λ front. present (views_after front)) [] xs → AllCertified secret digest_of stated (λ front. present (views_after front)) [] ys →
         length xs ≤ length ys → IsFront xs ys }
+{}
+
+/// Views in a row whose numbers count from 0 are told apart by their numbers, as the laws ask of the
+/// views along a list.
+pub fn views_from_0_are_numbered()
+    ensures { (views_after : List Batch → List View) → AreInARow views_after →
+        ((list : List Batch) → (present (views_after list)).number + 1 ≡ length (views_after list)) → AreNumbered (λ list. present (views_after list)) }
 {}
 
 /// Diaries decide one list. Of what two correct members decide, the shorter is a front of the longer.
