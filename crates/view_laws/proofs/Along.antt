@@ -1,5 +1,5 @@
 -- What diaries witness along a list, they witness in each view along it; and lists that are decided place by place are one.
-use Rattle.std.proofs.Common.{◌≡◌, inl, inr, ℕ, ◌+◌, ◌-◌, Bool, List, [], ◌∷◌, ◌++◌, length, take, refl, ap, sym, subst, ◌∙◌, append-nil, append_assoc}
+use Rattle.std.proofs.Common.{◌≡◌, inl, inr, ℕ, ◌+◌, ◌-◌, ◌<◌, ◌≤◌, Bool, List, [], ◌∷◌, ◌++◌, length, take, refl, ap, sym, subst, ◌∙◌, append-nil, append_assoc, arith}
 use Rattle.smart_base.specs.Views.{View}
 use Rattle.smart_statements.specs.Batches.{Batch}
 use Rattle.smart_statements.specs.Forms.{SignedBy}
@@ -11,13 +11,13 @@ use Rattle.vote_book.specs.Books.{Among}
 use Rattle.agreement_laws.specs.Fronts.{IsFront}
 use Rattle.agreement_laws.specs.Statements.{Statement}
 use Rattle.agreement_laws.specs.Certificates.{IsWritten, IsDecision, IsChosen, IsTaken, IsBacked}
-use Rattle.agreement_laws.specs.Law.{IsCorrect, Witnessed}
+use Rattle.agreement_laws.specs.Law.{IsCorrect, FewFaulty, Witnessed}
 use Rattle.agreement_laws.specs.Lists.{IsNextOf, AllCertified, Exact}
 use Rattle.agreement_laws.proofs.Lists.{among_right}
 use Rattle.agreement_laws.proofs.Regencies.{decided_once}
 use Rattle.view_laws.specs.Views.{view_at, AreOneList}
 use Rattle.view_laws.specs.Along.{IsBackedAlong, WitnessedAlong}
-use Rattle.view_laws.proofs.Fronts.{Fronts, front_itself, front_more, front_through, front_take, one_list_of}
+use Rattle.view_laws.proofs.Fronts.{Fronts, front_itself, front_more, front_through, front_take, front_next, one_list_of}
 
 module _ (secret : List ℕ) (digest_of : Batch → List ℕ) (view_after : List Batch → View) (stated : List Statement) where
   -- the batch behind a front is certified for its place
@@ -68,9 +68,9 @@ module _ (secret : List ℕ) (digest_of : Batch → List ℕ) (view_after : List
   under list front fronts (Marked m) along = tt
 
   -- where all lists go the same way as a front, the premises of one view hold in its view
-  known_by : (front : List Batch) → IsFront front chosen → Along front → Known front
-  known_by front is along = record {
-    few = known.few front is;
+  known_by : (front : List Batch) → FewFaulty (view_after front) faulty → Along front → Known front
+  known_by front few along = record {
+    few = few;
     lawful = λ member correct. (known.kept.members front member correct).lawful;
     backed = λ member correct.
         let m = known.kept.members front member correct in
@@ -117,7 +117,8 @@ module _ (secret : List ℕ) (digest_of : Batch → List ℕ) (view_after : List
   walk front [] is along = subst Along (sym (append-nil front)) along
   walk front (y ∷ ys) is along =
       let split : (front ++ y ∷ []) ++ ys ≡ front ++ y ∷ ys = append_assoc front (y ∷ []) ys in
-      let here : Known front = known_by front (front_through front (front ++ y ∷ ys) chosen (front_more front (y ∷ ys)) is) along in
+      let next : IsFront (front ++ y ∷ []) chosen = front_through (front ++ y ∷ []) (front ++ y ∷ ys) chosen (record { rest = ys; is = sym split }) is in
+      let here : Known front = known_by front (known.few front y next) along in
       let whole : chosen ≡ front ++ y ∷ (ys ++ is.rest) = is.is ∙ append_assoc front (y ∷ ys) is.rest in
       subst Along split
       (walk (front ++ y ∷ []) ys (subst (λ (ws : List Batch). IsFront ws chosen) (sym split) is) (longer front y (ys ++ is.rest) here whole along))
@@ -126,15 +127,29 @@ module _ (secret : List ℕ) (digest_of : Batch → List ℕ) (view_after : List
   pub along_at : (front : List Batch) → IsFront front chosen → Along front
   along_at front is = walk [] front is (λ list sure exact. inr (record { rest = list; is = refl }))
 
-  -- so the premises of one view hold in each view along the list
-  pub known_at : (front : List Batch) → IsFront front chosen → Known front
-  known_at front is = known_by front is (along_at front is)
+  -- so the premises of one view hold in the view behind each front, if few are faulty there
+  pub known_at : (front : List Batch) → IsFront front chosen → FewFaulty (view_after front) faulty → Known front
+  known_at front is few = known_by front few (along_at front is)
 
-  pub one_decision_at : (place regency later : ℕ) (first second : List ℕ) (left right : List (SignedBy Ballot))
+  -- as they are in the view of each place
+  pub known_within : (front : List Batch) (batch : Batch) → IsFront (front ++ batch ∷ []) chosen → Known front
+  known_within front batch is = known_at front (front_through front (front ++ batch ∷ []) chosen (front_more front (batch ∷ [])) is) (known.few front batch is)
+
+  pub one_decision_behind : (place regency later : ℕ) (first second : List ℕ) (left right : List (SignedBy Ballot)) → FewFaulty (view_at view_after chosen place) faulty
       → IsDecision secret (view_at view_after chosen place) stated place regency first left → IsDecision secret (view_at view_after chosen place) stated place later second right → first ≡ second
-  one_decision_at place regency later first second left right l r =
-      decided_once secret digest_of (view_at view_after chosen place) faulty diary stated (known_at (take (place - 1) chosen) (front_take (place - 1) chosen)) place regency later first second
+  one_decision_behind place regency later first second left right few l r =
+      decided_once secret digest_of (view_at view_after chosen place) faulty diary stated (known_at (take (place - 1) chosen) (front_take (place - 1) chosen) few) place regency later first second
       left right l r
+
+  few_at : (place : ℕ) → 0 < place → place ≤ length chosen → FewFaulty (view_at view_after chosen place) faulty
+  few_at place some within =
+      let next = front_next (place - 1) chosen (omega (arith, some, within)) in
+      known.few (take (place - 1) chosen) next.0 next.1
+
+  pub one_decision_within : (place regency later : ℕ) (first second : List ℕ) (left right : List (SignedBy Ballot)) → 0 < place → place ≤ length chosen
+      → IsDecision secret (view_at view_after chosen place) stated place regency first left → IsDecision secret (view_at view_after chosen place) stated place later second right → first ≡ second
+  one_decision_within place regency later first second left right some within l r =
+      one_decision_behind place regency later first second left right (few_at place some within) l r
 
   pub listed : (list : List Batch) → Sure list → Exact digest_of list chosen → AreOneList list chosen
   listed list sure exact = one_list_of list chosen (along_at chosen (front_itself chosen) list sure exact)

@@ -1,5 +1,5 @@
 -- Fronts of lists, and lists of which one is a front of the other.
-use Rattle.std.proofs.Common.{◌≡◌, ◌⊎◌, inl, inr, ℕ, zero, suc, ◌≤◌, List, [], ◌∷◌, ◌++◌, length, take, refl, ap, sym, ◌∙◌, arith, append-nil, append_assoc, length-append}
+use Rattle.std.proofs.Common.{◌≡◌, ◌⊎◌, inl, inr, ℕ, zero, suc, ◌<◌, ◌≤◌, List, [], ◌∷◌, ◌++◌, length, take, refl, ap, sym, ◌∙◌, arith, append-nil, append_assoc, length-append}
 use Rattle.smart_statements.specs.Batches.{Batch}
 use Rattle.agreement_laws.specs.Fronts.{IsFront}
 use Rattle.view_laws.specs.Views.{AreOneList}
@@ -17,6 +17,23 @@ pub front_take : {A : Type 0} (n : ℕ) (xs : List A) → IsFront (take n xs) xs
 front_take zero xs = record { rest = xs; is = refl }
 front_take (suc n) [] = record { rest = []; is = refl }
 front_take (suc n) (x ∷ xs) = let front = front_take n xs in record { rest = front.rest; is = ap (λ ys. x ∷ ys) front.is }
+
+-- the value behind so many
+pub front_next : {A : Type 0} (n : ℕ) (xs : List A) → n < length xs → (x : A) × IsFront (take n xs ++ x ∷ []) xs
+front_next zero [] less = absurd (omega (arith, less))
+front_next zero (x ∷ xs) less = (x, record { rest = xs; is = refl })
+front_next (suc n) [] less = absurd (omega (arith, less))
+front_next (suc n) (x ∷ xs) less =
+    let next = front_next n xs (omega (arith, less)) in
+    (next.0, record { rest = next.1.rest; is = ap (λ ys. x ∷ ys) next.1.is })
+
+-- nothing is a front of an empty list that ends with a value
+pub none_behind : {A : Type 0} (xs : List A) (x : A) → IsFront (xs ++ x ∷ []) [] → ⊥
+none_behind {A = A} xs x is = by xs is.is
+  where
+    by : (ys : List A) → [] ≡ (ys ++ x ∷ []) ++ is.rest → ⊥
+    by [] same = cc
+    by (y ∷ ys) same = cc
 
 -- ---- one of two lists is a front of the other
 

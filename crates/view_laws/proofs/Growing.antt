@@ -17,7 +17,7 @@ use Rattle.agreement_laws.proofs.Lists.{among_left, among_either}
 use Rattle.agreement_laws.proofs.OneList.{certified_more}
 use Rattle.view_laws.specs.Views.{AreNumbered, FewThroughout}
 use Rattle.view_laws.specs.Along.{IsBackedAfter, IsBackedAlong, WitnessedAlong}
-use Rattle.view_laws.proofs.Fronts.{front_through}
+use Rattle.view_laws.proofs.Fronts.{front_through, none_behind}
 
 module _ (secret : List ℕ) (digest_of : Batch → List ℕ) (view_after : List Batch → View) where
   -- ---- one entry
@@ -55,12 +55,12 @@ module _ (secret : List ℕ) (digest_of : Batch → List ℕ) (view_after : List
   -- ---- all together
 
   -- as long as nothing has been stated
-  pub along-begun : (diary : ℕ → List LogEntry) → AreNumbered view_after → FewThroughout view_after faulty []
+  pub along-begun : (diary : ℕ → List LogEntry) → AreNumbered view_after
       → ((made : List Batch) (member : ℕ) → IsCorrect (view_after made) faulty member → Lawful 0 0 (diary member))
       → ((made : List Batch) (member : ℕ) → IsCorrect (view_after made) faulty member → Each (IsBackedAlong secret digest_of view_after [] []) (diary member))
       → WitnessedAlong secret digest_of view_after faulty (λ member. []) diary [] []
-  along-begun diary numbered few lawful backed = record {
-    few = few;
+  along-begun diary numbered lawful backed = record {
+    few = λ front batch is. absurd (none_behind front batch is);
     kept = record {
       numbered = numbered;
       certified = tt;

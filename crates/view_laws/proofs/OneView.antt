@@ -17,7 +17,7 @@ pub one_view : (secret : List ℕ) (digest_of : Batch → List ℕ) (view : View
     → Witnessed secret digest_of view faulty diary stated → (chosen : List Batch) → AllCertified secret digest_of stated (λ front. view) [] chosen
     → WitnessedAlong secret digest_of (λ front. view) faulty (λ member. []) diary stated chosen
 one_view secret digest_of view faulty diary stated known chosen certified = record {
-  few = λ front is. known.few;
+  few = λ front batch is. known.few;
   kept = record {
     numbered = λ one two list a b same. refl;
     certified = certified;

@@ -109,7 +109,7 @@ module _ (secret : List ℕ) (request : SignedBy Request) where
   replaced_courses = record {
     numbered = over_numbered;
     members = λ batches member correct. record {
-      few = λ front is. few_over front;
+      few = λ front batch is. few_over front;
       lawful = lawful member;
       course = made member;
       shown = λ statement there signed. each_among (λ (s : Statement). IsFine diary s member) stated statement (fine member) there signed;

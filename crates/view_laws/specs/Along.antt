@@ -60,8 +60,8 @@ pub record AreKept (secret : List ℕ) (digest_of : Batch → List ℕ) (view_af
       KeepsTo secret digest_of view_after stated chosen member (lists member) (diary member)
   pub closed : IsClosed secret stated
 
--- Statements that diaries witness along a list, through all its views. At most f members of each view along the list are faulty, also of
--- those left. No two members need have the same list: that they have follows.
+-- Statements that diaries witness along a list, through all its views. At most f members of the view of each of its places are faulty, also
+-- where that view has been left. No two members need have the same list: that they have follows.
 pub record WitnessedAlong (secret : List ℕ) (digest_of : Batch → List ℕ) (view_after : List Batch → View) (faulty : ℕ → Bool) (lists : ℕ → List Batch)
     (diary : ℕ → List LogEntry) (stated : List Statement) (chosen : List Batch) : Type 0 where
   pub few : FewThroughout view_after faulty chosen

@@ -54,7 +54,7 @@ AreMadeIn secret digest_of view_after stated list [] = Unit {0}
 AreMadeIn secret digest_of view_after stated list (e ∷ es) =
     IsMadeIn secret digest_of view_after stated list e × AreMadeIn secret digest_of view_after stated (list ++ with_decided e []) es
 
--- A correct member that has decided each place itself. Few members are faulty in each view along what it has decided.
+-- A correct member that has decided each place itself. Few members are faulty in the view of each of these places.
 pub record TakesCourse (secret : List ℕ) (digest_of : Batch → List ℕ) (view_after : List Batch → View) (faulty : ℕ → Bool) (stated : List Statement)
     (member : ℕ) (diary : List LogEntry) : Type 0 where
   pub few : FewThroughout view_after faulty (decided_in diary)

@@ -1,5 +1,5 @@
 -- The views along a list of batches: each is the one that the batches before a place make. Which view a list makes is left open.
-use Rattle.std.specs.Prelude.{ℕ, ◌-◌, ◌≡◌, ◌<◌, ◌≤◌, Bool, List, take, length}
+use Rattle.std.specs.Prelude.{ℕ, ◌-◌, ◌≡◌, ◌<◌, ◌≤◌, Bool, List, [], ◌∷◌, ◌++◌, take, length}
 use Rattle.smart_base.specs.Views.{View}
 use Rattle.smart_statements.specs.Batches.{Batch}
 use Rattle.agreement_laws.specs.Fronts.{IsFront}
@@ -14,9 +14,9 @@ abbrev pub AreNumbered : (List Batch → View) → Type 0
 AreNumbered view_after =
     (one two list : List Batch) → IsFront one list → IsFront two list → (view_after one).number ≡ (view_after two).number → view_after one ≡ view_after two
 
--- few faulty members in each view along a list: in those of its places, and in that of the place behind it
+-- few faulty members in the view of each place of a list. Of the view behind its last place nothing is said.
 abbrev pub FewThroughout : (List Batch → View) → (ℕ → Bool) → List Batch → Type 0
-FewThroughout view_after faulty list = (front : List Batch) → IsFront front list → FewFaulty (view_after front) faulty
+FewThroughout view_after faulty list = (front : List Batch) (batch : Batch) → IsFront (front ++ batch ∷ []) list → FewFaulty (view_after front) faulty
 
 -- views in a row that are never taken back: those of a front of a list begin those of the list, and there is always one
 pub record AreInARow (views_after : List Batch → List View) : Type 0 where

@@ -19,7 +19,7 @@ ghost use Rattle.view_laws.specs.Along.{IsBackedAlong, WitnessedAlong};
 pub fn what_is_witnessed_along_stays_so()
     // As long as nothing has been stated or decided, lawful diaries that rest on nothing are witnessed.
     ensures begun { (secret : List ℕ) (digest_of : Batch → List ℕ) (view_after : List Batch → View) (faulty : ℕ → Bool) (diary : ℕ → List LogEntry) →
-        AreNumbered view_after → FewThroughout view_after faulty [] →
+        AreNumbered view_after →
         ((made : List Batch) (member : ℕ) → IsCorrect (view_after made) faulty member → Lawful 0 0 (diary member)) →
         ((made : List Batch) (member : ℕ) → IsCorrect (view_after made) faulty member → Each (IsBackedAlong secret digest_of view_after [] []) (diary member)) →
         WitnessedAlong secret digest_of view_after faulty (λ member. []) diary [] [] }

@@ -1,5 +1,5 @@
 //! One list over several views.
-ghost use Rattle.std.specs.Prelude.{◌≡◌, ◌≤◌, ℕ, ◌+◌, List, [], length, Bool};
+ghost use Rattle.std.specs.Prelude.{◌≡◌, ◌<◌, ◌≤◌, ℕ, ◌+◌, List, [], ◌∷◌, ◌++◌, length, Bool};
 ghost use Rattle.smart_base.specs.Views.{View, present};
 ghost use Rattle.smart_statements.specs.Forms.{SignedBy};
 ghost use Rattle.smart_statements.specs.Batches.{Batch};
@@ -9,26 +9,38 @@ ghost use Rattle.vote_book.specs.Books.{Among};
 ghost use Rattle.agreement_laws.specs.Fronts.{IsFront};
 ghost use Rattle.agreement_laws.specs.Statements.{Statement};
 ghost use Rattle.agreement_laws.specs.Certificates.{IsDecision};
-ghost use Rattle.agreement_laws.specs.Law.{IsCorrect, Witnessed};
+ghost use Rattle.agreement_laws.specs.Law.{IsCorrect, FewFaulty, Witnessed};
 ghost use Rattle.agreement_laws.specs.Lists.{AllCertified, Exact};
 ghost use Rattle.view_laws.specs.Views.{view_at, AreNumbered, AreInARow, AreOneList};
 ghost use Rattle.view_laws.specs.Along.{WitnessedAlong};
 ghost use Rattle.view_laws.specs.Courses.{decided_in, AreCourses};
 
-/// What diaries witness along a list, they witness in each view along it: those of its places, and that
-/// of the place behind it. So each law of one view holds in each of them.
+/// What diaries witness along a list, they witness in the view of each of its places. So each law of one
+/// view holds in each of them.
 pub fn each_view_is_witnessed()
-    ensures { (secret : List ℕ) (digest_of : Batch → List ℕ) (view_after : List Batch → View) (faulty : ℕ → Bool) (lists : ℕ → List Batch) (diary : ℕ → List LogEntry)
+    // The view of the place behind a front.
+    ensures within { (secret : List ℕ) (digest_of : Batch → List ℕ) (view_after : List Batch → View) (faulty : ℕ → Bool) (lists : ℕ → List Batch) (diary : ℕ → List LogEntry)
         (stated : List Statement) (chosen : List Batch) → WitnessedAlong secret digest_of view_after faulty lists diary stated chosen →
-        (front : List Batch) → IsFront front chosen → Witnessed secret digest_of (view_after front) faulty diary stated }
+        (front : List Batch) (batch : Batch) → IsFront (front ++ batch ∷ []) chosen → Witnessed secret digest_of (view_after front) faulty diary stated }
+    // Also that of the place behind the whole list, if few are faulty in it.
+    ensures behind { (secret : List ℕ) (digest_of : Batch → List ℕ) (view_after : List Batch → View) (faulty : ℕ → Bool) (lists : ℕ → List Batch) (diary : ℕ → List LogEntry)
+        (stated : List Statement) (chosen : List Batch) → WitnessedAlong secret digest_of view_after faulty lists diary stated chosen →
+        (front : List Batch) → IsFront front chosen → FewFaulty (view_after front) faulty → Witnessed secret digest_of (view_after front) faulty diary stated }
 {}
 
 /// A place has one decision, in the view in force there: that of the batches before it (Mod-SMaRt, EDCC
 /// 2012; views in a row: BFT-SMaRt, DSN 2014).
 pub fn each_place_has_one_decision()
-    ensures { (secret : List ℕ) (digest_of : Batch → List ℕ) (view_after : List Batch → View) (faulty : ℕ → Bool) (lists : ℕ → List Batch) (diary : ℕ → List LogEntry)
+    // A place of the list.
+    ensures within { (secret : List ℕ) (digest_of : Batch → List ℕ) (view_after : List Batch → View) (faulty : ℕ → Bool) (lists : ℕ → List Batch) (diary : ℕ → List LogEntry)
         (stated : List Statement) (chosen : List Batch) → WitnessedAlong secret digest_of view_after faulty lists diary stated chosen →
-        (place regency later : ℕ) (first second : List ℕ) (left right : List (SignedBy Ballot)) →
+        (place regency later : ℕ) (first second : List ℕ) (left right : List (SignedBy Ballot)) → 0 < place → place ≤ length chosen →
+        IsDecision secret (view_at view_after chosen place) stated place regency first left →
+        IsDecision secret (view_at view_after chosen place) stated place later second right → first ≡ second }
+    // Also the place behind the list, if few are faulty in the view in force there.
+    ensures behind { (secret : List ℕ) (digest_of : Batch → List ℕ) (view_after : List Batch → View) (faulty : ℕ → Bool) (lists : ℕ → List Batch) (diary : ℕ → List LogEntry)
+        (stated : List Statement) (chosen : List Batch) → WitnessedAlong secret digest_of view_after faulty lists diary stated chosen →
+        (place regency later : ℕ) (first second : List ℕ) (left right : List (SignedBy Ballot)) → FewFaulty (view_at view_after chosen place) faulty →
         IsDecision secret (view_at view_after chosen place) stated place regency first left →
         IsDecision secret (view_at view_after chosen place) stated place later second right → first ≡ second }
 {}
@@ -39,7 +51,7 @@ pub fn each_place_has_one_decision()
 /// Each batch is decided in the view that the batches before it in its own list make. So is each entry of
 /// a member's diary made in a view of that member's own list. That all these views are one where their
 /// places are follows, place by place: the same batches before, hence the same view, hence the same
-/// decision. At most f members of each view along the chosen list are faulty. Of the views of other lists
+/// decision. At most f members are faulty in the view of each place of the chosen list. Of other views
 /// nothing is asked.
 pub fn one_list_over_views()
     // Any list of which each batch is certified for its place, such as that of a member now faulty.
@@ -71,7 +83,7 @@ pub fn views_from_0_are_numbered()
 /// Diaries decide one list. Of what two correct members decide, the shorter is a front of the longer.
 ///
 /// Each has decided all its places itself, and each entry is made in the view of what the entries before
-/// it decide. In each view along what a correct member decides, few members are faulty.
+/// it decide. In the view of each place that a correct member decides, few members are faulty.
 pub fn diaries_decide_one_list()
     ensures { (secret : List ℕ) (digest_of : Batch → List ℕ) (view_after : List Batch → View) (faulty : ℕ → Bool) (diary : ℕ → List LogEntry) (stated : List Statement) →
         AreCourses secret digest_of view_after faulty diary stated →
