@@ -1,0 +1,10 @@
+mod Fronts
+pub mod Along
+mod OneView
+mod Growing
+mod Courses
+mod Rows
+mod Votes
+mod Replaced
+mod TooFew
+mod TooLate

@@ -1,0 +1,4 @@
+pub mod Views
+pub mod Along
+pub mod Courses
+pub mod Example
