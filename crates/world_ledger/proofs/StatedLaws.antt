@@ -1,6 +1,6 @@
 -- An index of statements stays one.
 use Rattle.std.proofs.Common.{◌≡◌, ◌≤◌, ℕ, Bool, true, false, cond, ◌||◌, ◌&&◌, List, [], ◌∷◌, ◌++◌, map, filter, Result, Ok, Err, IsOk, OnOk, OnErr, length, take, refl, ap, sym, ◌∙◌, arith}
-use Rattle.std.specs.Prelude.{nat_eq, not, if◌then◌else◌}
+use Rattle.std.specs.Prelude.{nat_eq, if◌then◌else◌}
 use Rattle.std.specs.Bool.{beq}
 use Rattle.std.specs.Cmp.{nat_eq_equiv}
 use Rattle.std.specs.Cmp.Lexicographic.{pointwise}
