@@ -1,10 +1,17 @@
--- Counts of failures that rise, and addresses of different devices.
-use Rattle.std.proofs.Common.{◌≢◌, ◌≤◌, ◌+◌, ◌^◌, ◌-◌, min, ◌⊎◌, inl, inr, ℕ, List, ap, arith}
+-- Counts of failures that rise, addresses of different devices, and what a crash may leave of devices that are the same.
+use Rattle.std.proofs.Common.{◌≡◌, ◌≢◌, ◌≤◌, ◌+◌, ◌^◌, ◌-◌, min, ◌⊎◌, inl, inr, ℕ, List, sym, ap, subst, arith}
 use Rattle.faults.specs.Counts.{Rose}
+use Rattle.disk_model.specs.Cells.{Cells, Within}
 use Rattle.disk_model.specs.Rooms.{Address, address}
 
 pub apart : (dir : List ℕ) (member d e : ℕ) → d ≢ e → address dir member d ≢ address dir member e
 apart dir member d e other same = other (ap (λ (a : Address). a.device) same)
+
+pub next_apart : (dir : List ℕ) (member n : ℕ) → address dir member (n + 1) ≢ address dir member n
+next_apart dir member n = apart dir member (n + 1) n (λ same. absurd (omega arith))
+
+pub within_alike : (now left before held : Cells) → now ≡ left → before ≡ held → Within left before → Within now held
+within_alike now left before held same was within = subst (λ (x : Cells). Within x held) (sym same) (subst (λ (x : Cells). Within left x) was within)
 
 pub rose_since : (before then now : ℕ) → before ≤ then → Rose then now → Rose before now
 rose_since before then now early rose =

@@ -1,8 +1,9 @@
 -- The devices of a node in a room.
 use Rattle.std.specs.Prelude.{◌≡◌, ◌≢◌, ◌≤◌, ◌+◌, ℕ, List, Option, Some, None}
-use Rattle.disk_model.specs.Cells.{Cells}
+use Rattle.disk_model.specs.Cells.{Cells, Within}
 use Rattle.disk_model.specs.Rooms.{Address, address}
 use Rattle.store_laws.specs.Restored.{Images}
+use Rattle.store_laws.specs.States.{Devices}
 use Rattle.durable_store.specs.declared.disks.Disks.{Disks}
 
 -- A thing that is taken, and that had failed no more often then than now.
@@ -61,3 +62,24 @@ images_at cells dir member = record {
   even_slot = (cells (address dir member 2)).now;
   odd_slot = (cells (address dir member 3)).now;
 }
+
+-- what a member's four devices in a room hold, and what is not yet sure of it
+abbrev pub devices_at : (Address → Cells) → List ℕ → ℕ → Devices
+devices_at cells dir member = record {
+  even_log = cells (address dir member 0);
+  odd_log = cells (address dir member 1);
+  even_slot = cells (address dir member 2);
+  odd_slot = cells (address dir member 3);
+}
+
+-- two devices of which a crash leaves nothing but what it might leave of a member's two in a room, with numbers one after the other
+pub record IsPairWithin (cells : Address → Cells) (dir : List ℕ) (member first : ℕ) (one other : Cells) : Type 0 where
+  pub one_within : Within one (cells (address dir member first))
+  pub other_within : Within other (cells (address dir member (first + 1)))
+
+-- four devices of which a crash leaves nothing but what it might leave of others
+pub record AreWithin (new old : Devices) : Type 0 where
+  pub even_log : Within new.even_log old.even_log
+  pub odd_log : Within new.odd_log old.odd_log
+  pub even_slot : Within new.even_slot old.even_slot
+  pub odd_slot : Within new.odd_slot old.odd_slot

@@ -1,11 +1,11 @@
 //! The devices of a node, taken from a room and put back.
 ghost use Rattle.std.specs.Prelude.{◌≡◌, ◌≢◌, ◌≤◌, ◌+◌, ℕ, IfOk, IsErrOf, OnErr, None};
 ghost use Rattle.faults.specs.Counts.{Rose, HasCause};
-ghost use Rattle.disk_model.specs.Cells.{settled};
+ghost use Rattle.disk_model.specs.Cells.{settled, Within};
 ghost use Rattle.disk_model.specs.Rooms.{address, KeepsOthers};
-ghost use Rattle.durable_store.specs.Disks.{AreSettled, DiskRose, contents};
+ghost use Rattle.durable_store.specs.Disks.{AreSettled, DiskRose, cells_of, contents};
 ghost use Rattle.durable_store.specs.declared.disks.Disks.{Disks};
-ghost use Rattle.member_opening.specs.Devices.{AreAsBefore, AreFree, AreHeld, ArePair, IsFreePair, IsHeld, IsPairAsBefore, KeepsBeside, KeepsBesidePair, KeepsDevices, images_at};
+ghost use Rattle.member_opening.specs.Devices.{AreAsBefore, AreFree, AreHeld, ArePair, AreWithin, IsFreePair, IsHeld, IsPairAsBefore, IsPairWithin, KeepsBeside, KeepsBesidePair, KeepsDevices, devices_at, images_at};
 
 use disk_model::disk::Disk;
 use disk_model::room::DiskRoom;
@@ -27,6 +27,8 @@ fn take_device<R: DiskRoom>(
     ensures contents { IfOk result (λ disk. R.Disk.told → R.Disk.cells disk ≡ settled (R.cells room.old (address dir.now member device)).now) }
     ensures free { IfOk result (λ _. R.taken room.old (address dir.now member device) ≡ None) }
     ensures back { OnErr result (R.taken room.new (address dir.now member device) ≡ R.taken room.old (address dir.now member device)) }
+    ensures within { IfOk result (λ disk. R.Disk.told → Within (R.Disk.cells disk) (R.cells room.old (address dir.now member device))) }
+    ensures torn { OnErr result (R.Disk.told → Within (R.cells room.new (address dir.now member device)) (R.cells room.old (address dir.now member device))) }
     ensures others { KeepsOthers (address dir.now member device) (R.cells room.old) (R.cells room.new) }
     ensures others_taken { KeepsOthers (address dir.now member device) (R.taken room.old) (R.taken room.new) }
     ensures cause { HasCause (R.faults room.old) (R.faults room.new) result }
@@ -55,6 +57,8 @@ fn take_pair<R: DiskRoom>(
     ensures contents { IfOk result (λ pair. R.Disk.told → (R.Disk.cells pair.0 ≡ settled (R.cells room.old (address dir.now member first)).now) × (R.Disk.cells pair.1 ≡ settled (R.cells room.old (address dir.now member (first + 1))).now)) }
     ensures free { IfOk result (λ _. IsFreePair (R.taken room.old) dir.now member first) }
     ensures back { OnErr result (IsPairAsBefore (R.taken room.old) (R.taken room.new) dir.now member first) }
+    ensures within { IfOk result (λ pair. R.Disk.told → IsPairWithin (R.cells room.old) dir.now member first (R.Disk.cells pair.0) (R.Disk.cells pair.1)) }
+    ensures torn { OnErr result (R.Disk.told → IsPairWithin (R.cells room.old) dir.now member first (R.cells room.new (address dir.now member first)) (R.cells room.new (address dir.now member (first + 1)))) }
     ensures others { KeepsDevices dir.now member first (R.cells room.old) (R.cells room.new) }
     ensures others_taken { KeepsDevices dir.now member first (R.taken room.old) (R.taken room.new) }
     ensures beside { KeepsBesidePair dir.now member first (R.cells room.old) (R.cells room.new) }
@@ -85,6 +89,9 @@ pub fn take_devices<R: DiskRoom>(
     // None of them was taken. After an error none is taken that was not.
     ensures free { IfOk result (λ _. AreFree (R.taken room.old) dir.now member) }
     ensures back { OnErr result (AreAsBefore (R.taken room.old) (R.taken room.new) dir.now member) }
+    // A crash leaves of them nothing but what it might have left before, also after an error.
+    ensures within { IfOk result (λ disks. R.Disk.told → AreWithin (cells_of R.Disk.cells disks) (devices_at (R.cells room.old) dir.now member)) }
+    ensures torn { OnErr result (R.Disk.told → AreWithin (devices_at (R.cells room.new) dir.now member) (devices_at (R.cells room.old) dir.now member)) }
     // All other disks of the room are as they were.
     ensures beside { KeepsBeside dir.now member (R.cells room.old) (R.cells room.new) }
     ensures beside_taken { KeepsBeside dir.now member (R.taken room.old) (R.taken room.new) }
@@ -111,6 +118,7 @@ pub fn take_devices<R: DiskRoom>(
 pub fn put_back<R: DiskRoom>(room: &mut R, dir: &[u8], member: MemberId, disks: Disks<R::Disk>)
     requires { AreHeld (R.taken room.old) R.Disk.faults dir.now member disks }
     ensures contents { R.Disk.told → images_at (R.cells room.new) dir.now member ≡ contents R.Disk.cells disks }
+    ensures cells { R.Disk.told → devices_at (R.cells room.new) dir.now member ≡ cells_of R.Disk.cells disks }
     ensures back { AreFree (R.taken room.new) dir.now member }
     // All other disks of the room are as they were.
     ensures beside { KeepsBeside dir.now member (R.cells room.old) (R.cells room.new) }

@@ -1,9 +1,9 @@
 -- Why a node has its status.
 use Rattle.std.proofs.Common.{◌≡◌, ◌&&◌, Bool, true, false, not, refl, if◌then◌else◌}
-use Rattle.node_threads.specs.Loops.{is_done, gave_up}
-use Rattle.node_threads.specs.declared.ending.Ends.{Ends}
-use Rattle.node_threads.specs.declared.ending.LoopEnd.{LoopEnd}
-use Rattle.node_threads.specs.declared.ending.LoopEnd.TheVariants as loops
+use Rattle.node_endings.specs.Loops.{is_done, gave_up}
+use Rattle.node_endings.specs.declared.ending.Ends.{Ends}
+use Rattle.node_endings.specs.declared.ending.LoopEnd.{LoopEnd}
+use Rattle.node_endings.specs.declared.ending.LoopEnd.TheVariants as loops
 use Rattle.node_run.specs.Statuses.{has_failed, is_whole, status_behind, status_by, status_of}
 use Rattle.node_run.specs.declared.status.NodeStatus.{NodeStatus}
 use Rattle.node_run.specs.declared.status.NodeStatus.TheVariants as statuses

@@ -1,5 +1,5 @@
 -- How a life ended whose loops are joined, by what they told and by what its seat had then.
-use Rattle.std.proofs.Common.{◌≡◌, ◌≤◌, ◌+◌, ◌-◌, ◌^◌, ◌==◌, ◌&&◌, ℕ, min, Bool, true, false, not, List, [], ap, subst}
+use Rattle.std.proofs.Common.{◌≡◌, ◌≤◌, ◌+◌, ◌-◌, ◌^◌, ◌==◌, ◌&&◌, ℕ, min, Bool, true, false, not, List, [], sym, ap, subst}
 use Rattle.std.proofs.lemmas.Bool.{eqb-true}
 use Rattle.std.specs.Io.KnownBytes.{Appends, IsAtEnd}
 use Rattle.group_links.specs.Link.{link_put, link_taken}
@@ -12,16 +12,16 @@ use Rattle.node_ends.specs.Intakes.{HasTakenIn, Reads, IsDone, IsCutOff as is-cu
 use Rattle.node_ends.specs.Outlets.{Writes}
 use Rattle.node_ends.specs.declared.intake.Intake.{Intake}
 use Rattle.node_ends.specs.declared.outlet.Outlet.{Outlet}
-use Rattle.node_threads.specs.Loops.{is_done, gave_up, loses}
-use Rattle.node_threads.specs.Settled.{EndsSettled}
-use Rattle.node_threads.specs.declared.ending.Ends.{Ends}
-use Rattle.node_threads.specs.declared.ending.LoopEnd.TheVariants as loops
+use Rattle.node_endings.specs.Loops.{is_done, gave_up, loses}
+use Rattle.node_endings.specs.Settled.{EndsSettled}
+use Rattle.node_endings.specs.declared.ending.Ends.{Ends}
+use Rattle.node_endings.specs.declared.ending.LoopEnd.TheVariants as loops
 use Rattle.node_run.specs.Lives.{Life, Lived, LifeEnd, EndsBy, IsWhole, IsCutOff}
 use Rattle.node_run.specs.Statuses.{all_went, is_whole, status_of}
 use Rattle.node_run.specs.declared.status.NodeStatus.{NodeStatus}
 use Rattle.node_run.specs.declared.status.NodeStatus.TheVariants as ends
 use Rattle.node_run.proofs.Causes.{both-true, done-goes-on, done-is}
-use Rattle.node_run.proofs.Living.{cut-off, ends_by, lived, whole}
+use Rattle.node_run.proofs.Living.{cut-off, ends_by, lived, lived-trail, whole}
 
 module _ {S : Type 0} (life : Life S) (i0 i1 : Intake) (o0 o1 : Outlet) (trail : List TrailEvent) (all : Ends) (fresh : HasTakenIn [] i0)
     (reads : Reads life.left_before life.left_after (loses all.received) i0 i1) (came : IsFirst (arrivals trail) (link_put i1.link)) (none : link_taken o0.link ≡ [])
@@ -56,8 +56,13 @@ module _ {S : Type 0} (life : Life S) (i0 i1 : Intake) (o0 o1 : Outlet) (trail :
     is-cut frame is =
         cut-off life i0 i1 o0 o1 trail (loses all.received) (not (gave_up all.sent)) fresh reads came none writes left released needs firm text (ap loses is) frame (form frame is).0 (form frame is).1
 
-    pub life-end : LifeEnd life (status_of all failed (settled && all_went arriving leaving))
-    life-end = record { lived = the-life; ends = ends_by the-life all failed (settled && all_went arriving leaving) is-whole is-cut }
+    -- the life, and what is known of its trail
+    pub life-end : (Known : List TrailEvent → Type 0) → Known trail → (end : LifeEnd life (status_of all failed (settled && all_went arriving leaving))) × Known end.lived.trail
+    life-end Known known = (
+      record { lived = the-life; ends = ends_by the-life all failed (settled && all_went arriving leaving) is-whole is-cut },
+      subst Known
+          (sym (lived-trail life i0 i1 o0 o1 trail (loses all.received) (not (gave_up all.sent)) fresh reads came none writes left released needs firm text)) known,
+    )
 
 -- no life ends for an entry of its store
 pub not-stored : {S : Type 0} (life : Life S) (status : NodeStatus) (entry : ℕ) → LifeEnd life status → status ≡ ends.Store entry → ⊥

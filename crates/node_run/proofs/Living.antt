@@ -13,11 +13,11 @@ use Rattle.node_ends.specs.Intakes.{filled, HasTakenIn, Reads, IsDone, IsCutOff 
 use Rattle.node_ends.specs.Outlets.{Writes}
 use Rattle.node_ends.specs.declared.intake.Intake.{Intake}
 use Rattle.node_ends.specs.declared.outlet.Outlet.{Outlet}
-use Rattle.node_threads.proofs.Joined.{first_of_front}
-use Rattle.node_threads.specs.Settled.{EndsSettled}
-use Rattle.node_threads.specs.declared.ending.Ends.{Ends}
-use Rattle.node_threads.specs.declared.ending.LoopEnd.{LoopEnd}
-use Rattle.node_threads.specs.declared.ending.LoopEnd.TheVariants as loops
+use Rattle.node_endings.proofs.Joined.{first_of_front}
+use Rattle.node_endings.specs.Settled.{EndsSettled}
+use Rattle.node_endings.specs.declared.ending.Ends.{Ends}
+use Rattle.node_endings.specs.declared.ending.LoopEnd.{LoopEnd}
+use Rattle.node_endings.specs.declared.ending.LoopEnd.TheVariants as loops
 use Rattle.node_run.specs.Lives.{Life, Lived, IsWhole, IsCutOff, EndsBy}
 use Rattle.node_run.specs.Statuses.{has_failed, is_whole, status_behind, status_by, status_of}
 use Rattle.node_run.specs.declared.status.NodeStatus.{NodeStatus}
@@ -64,6 +64,10 @@ module _ {S : Type 0} (life : Life S) (i0 i1 : Intake) (o0 o1 : Outlet) (trail :
     wrote = writes.wrote;
     text = text;
   }
+
+  pub lived-trail : lived.trail ≡ trail
+  unfolding lived
+  lived-trail = refl
 
   given-whole : i1.waiting ≡ None → i1.frames.ready ≡ [] → link_put i1.link ≡ filled (taken.given ++ i1.frames.ready)
   given-whole none-waits none-ready =

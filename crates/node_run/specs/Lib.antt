@@ -1,5 +1,6 @@
 pub mod Lives
 pub mod Members
 pub mod Opened
+pub mod Rounds
 pub mod Statuses
 pub mod Wires

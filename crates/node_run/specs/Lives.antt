@@ -11,7 +11,7 @@ use Rattle.trail.specs.declared.opening.TrailOpening.{TrailOpening}
 use Rattle.trail_rules.specs.Replays.{core_steps, replay, arrivals, needed, Released}
 use Rattle.node_seat.specs.Seats.{payloads, IsFirst, HasWrittenFirst}
 use Rattle.node_ends.specs.Intakes.{filled}
-use Rattle.node_threads.specs.Settled.{EndsSettled}
+use Rattle.node_endings.specs.Settled.{EndsSettled}
 use Rattle.node_run.specs.declared.status.NodeStatus.{NodeStatus}
 use Rattle.node_run.specs.declared.status.NodeStatus.TheVariants as ends
 

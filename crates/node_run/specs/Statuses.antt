@@ -6,10 +6,10 @@ use Rattle.member_opening.specs.declared.fault.RestoreFault.{RestoreFault}
 use Rattle.member_opening.specs.declared.fault.RestoreFault.TheVariants as restores
 use Rattle.store_form.specs.declared.ends.LogFault.{LogFault}
 use Rattle.store_form.specs.declared.ends.LogFault.TheVariants as logs
-use Rattle.node_threads.specs.Loops.{is_done}
-use Rattle.node_threads.specs.declared.ending.Ends.{Ends}
-use Rattle.node_threads.specs.declared.ending.LoopEnd.{LoopEnd}
-use Rattle.node_threads.specs.declared.ending.LoopEnd.TheVariants as loops
+use Rattle.node_endings.specs.Loops.{is_done}
+use Rattle.node_endings.specs.declared.ending.Ends.{Ends}
+use Rattle.node_endings.specs.declared.ending.LoopEnd.{LoopEnd}
+use Rattle.node_endings.specs.declared.ending.LoopEnd.TheVariants as loops
 use Rattle.group_links.specs.declared.ends.LinkEnd.{LinkEnd}
 use Rattle.node_run.specs.declared.status.NodeStatus.{NodeStatus}
 use Rattle.node_run.specs.declared.status.NodeStatus.TheVariants as statuses

@@ -4,13 +4,14 @@ ghost use Rattle.std.specs.Io.KnownBytes.{Appends};
 ghost use Rattle.faults.specs.Counts.{Rose};
 ghost use Rattle.durable_store.specs.Disks.{DiskRose, NoneFell};
 ghost use Rattle.durable_store.specs.Stores.{state_of, Stands};
-ghost use Rattle.log_lane.specs.Lane.{in_lane, lane_put, lane_room};
+ghost use Rattle.log_lane.specs.Lane.{in_lane, lane_put, lane_room, lane_taken};
 ghost use Rattle.group_links.specs.Link.{in_link, link_put, link_taken, out_link};
 ghost use Rattle.trail.specs.Trails.{trail_text};
 ghost use Rattle.member_opening.specs.Restorings.{KeepsCounts};
 ghost use Rattle.node_run.specs.Lives.{LifeEnd};
 ghost use Rattle.node_run.specs.Statuses.{all_went, status_of};
 ghost use Rattle.node_run.specs.Opened.{IsOpened};
+ghost use Rattle.node_run.specs.Rounds.{IsLeftBy, LifeFrom};
 ghost use Rattle.node_run.specs.Wires.{AreFresh};
 
 use crate::naming::{Named, PlaceOf};
@@ -29,15 +30,15 @@ use log_worker::text::EntryText;
 use log_worker::worker::LogWorker;
 use member_opening::heading::write_head;
 use node_core::node::NodeCore;
+use node_endings::ending::Ends;
+use node_endings::finishing::{NodeEnd, finish};
+use node_endings::settling::settle;
 use node_ends::intake::Intake;
 use node_ends::outlet::Outlet;
 use node_played::played::Played;
 use node_seat::place::Place;
 use node_seat::seat::{NodeCell, Seat};
-use node_threads::ending::Ends;
-use node_threads::finishing::{NodeEnd, finish};
 use node_threads::running::run_loops;
-use node_threads::settling::settle;
 use smart_base::name::MemberId;
 use smart_base::sequence::Bytes;
 use smart_io::stream::{Sink, Source};
@@ -145,9 +146,10 @@ fn run_seated<
 ) -> Remains<D, O>
     requires arriving { (in_link arriving ≡ P.arriving) × (link_put arriving ≡ []) }
     requires leaving { (out_link leaving ≡ P.leaving) × (link_taken leaving ≡ []) }
+    requires taken { lane_taken worker.lane ≡ [] }
     requires faulty { worker.faulty ≡ false }
     requires sound { D.told → Stands (state_of D.cells worker.store) }
-    ensures ended { LifeEnd (record { meaning = S.meaning; opening = P.opening; head = P.head; entries = P.entries; left_before = I.left input.old; left_after = I.left input.new; written_before = W.written output.old; written_after = W.written output.new; told_before = P.begun; told_after = O.written result.sink; firm = result.store.plan.firm }) result.status }
+    ensures ended { (end : LifeEnd (record { meaning = S.meaning; opening = P.opening; head = P.head; entries = P.entries; left_before = I.left input.old; left_after = I.left input.new; written_before = W.written output.old; written_after = W.written output.new; told_before = P.begun; told_after = O.written result.sink; firm = result.store.plan.firm }) result.status) × IsLeftBy D.told D.remembers D.cells D.moment D.left_since S.meaning P.opening end.lived.trail P.restored worker.store result.store }
     ensures read { result.status ≡ NodeStatus.ReadFault → Rose (I.faults input.old) (I.faults input.new) }
     ensures write { result.status ≡ NodeStatus.WriteFault → Rose (W.faults output.old) (W.faults output.new) }
     ensures trail { result.status ≡ NodeStatus.TrailFault → Rose P.failures (O.faults result.sink) }
@@ -214,7 +216,7 @@ fn run_named<
     requires fresh { AreFresh wires }
     requires core { (core.broken ≡ false) × KeepsCounts store.plan.restored core.node }
     requires opened { IsOpened D.told D.cells store }
-    ensures ended { LifeEnd (record { meaning = S.meaning; opening = core.node; head = head.now; entries = entries.now; left_before = I.left input.old; left_after = I.left input.new; written_before = W.written output.old; written_after = W.written output.new; told_before = O.written sink; told_after = O.written result.sink; firm = result.store.plan.firm }) result.status }
+    ensures ended { LifeFrom D.told D.remembers D.cells D.moment D.left_since (record { meaning = S.meaning; opening = core.node; head = head.now; entries = entries.now; left_before = I.left input.old; left_after = I.left input.new; written_before = W.written output.old; written_after = W.written output.new; told_before = O.written sink; told_after = O.written result.sink; firm = result.store.plan.firm }) store.plan.restored store result.store result.status }
     ensures read { result.status ≡ NodeStatus.ReadFault → Rose (I.faults input.old) (I.faults input.new) }
     ensures write { result.status ≡ NodeStatus.WriteFault → Rose (W.faults output.old) (W.faults output.new) }
     ensures trail { result.status ≡ NodeStatus.TrailFault → Rose (O.faults sink) (O.faults result.sink) }
@@ -301,7 +303,7 @@ pub fn run_life<
     requires fresh { AreFresh wires }
     requires core { (core.broken ≡ false) × KeepsCounts store.plan.restored core.node }
     requires opened { IsOpened D.told D.cells store }
-    ensures ended { LifeEnd (record { meaning = S.meaning; opening = core.node; head = head.now; entries = entries.now; left_before = I.left input.old; left_after = I.left input.new; written_before = W.written output.old; written_after = W.written output.new; told_before = O.written sink; told_after = O.written result.sink; firm = result.store.plan.firm }) result.status }
+    ensures ended { LifeFrom D.told D.remembers D.cells D.moment D.left_since (record { meaning = S.meaning; opening = core.node; head = head.now; entries = entries.now; left_before = I.left input.old; left_after = I.left input.new; written_before = W.written output.old; written_after = W.written output.new; told_before = O.written sink; told_after = O.written result.sink; firm = result.store.plan.firm }) store.plan.restored store result.store result.status }
     ensures read { result.status ≡ NodeStatus.ReadFault → Rose (I.faults input.old) (I.faults input.new) }
     ensures write { result.status ≡ NodeStatus.WriteFault → Rose (W.faults output.old) (W.faults output.new) }
     ensures trail { result.status ≡ NodeStatus.TrailFault → Rose (O.faults sink) (O.faults result.sink) }

@@ -1,13 +1,13 @@
 //! The run of a member: its devices are taken, its store is opened, its node lives, and all is put back.
-ghost use Rattle.std.specs.Prelude.{◌≡◌, ◌⊎◌, ℕ, IfOk, false, length};
+ghost use Rattle.std.specs.Prelude.{◌≡◌, ℕ, IfOk, false, length};
 ghost use Rattle.faults.specs.Counts.{Rose};
 ghost use Rattle.store_laws.specs.Restored.{Images, restores};
 ghost use Rattle.durable_store.specs.Disks.{AreSettled, DiskRose, NoneFell, contents};
 ghost use Rattle.member_opening.specs.Devices.{images_at};
 ghost use Rattle.member_opening.specs.Headings.{head_by};
 ghost use Rattle.member_opening.specs.Restorings.{KeepsCounts};
-ghost use Rattle.node_run.specs.Members.{HasNotLived, LifeOver, RunEnd, RunOver};
-ghost use Rattle.node_run.specs.Opened.{IsOpened};
+ghost use Rattle.node_run.specs.Members.{RunEnd, RunOver, StoreOver};
+ghost use Rattle.node_run.specs.Opened.{IsOpened, OpensWith};
 ghost use Rattle.node_run.specs.Wires.{AreFresh};
 
 use crate::life::{Remains, run_life};
@@ -89,8 +89,9 @@ fn live<
 where
     T::Sink: Send,
     requires core { (core.broken ≡ false) × KeepsCounts store.plan.restored core.node }
+    requires restored { store.plan.restored ≡ length parts.now.entries }
     requires opened { IsOpened D.told D.cells store }
-    ensures ended { (images : Images) → HasNotLived (record { meaning = S.meaning; settings = settings.now; told = D.told; images = images; left_before = I.left input.old; left_after = I.left input.new; written_before = W.written output.old; written_after = W.written output.new; sink = T.Sink; text_of = T.Sink.written; trails_after = T.kept trails.new }) result.status ⊎ LifeOver (record { meaning = S.meaning; settings = settings.now; told = D.told; images = images; left_before = I.left input.old; left_after = I.left input.new; written_before = W.written output.old; written_after = W.written output.new; sink = T.Sink; text_of = T.Sink.written; trails_after = T.kept trails.new }) core.node (head_by S.meaning settings.now parts.now) parts.now.entries result.disks result.status }
+    ensures ended { (images : Images) → StoreOver (record { meaning = S.meaning; settings = settings.now; disk = D; told = D.told; remembers = D.remembers; cells = D.cells; moment = D.moment; left_since = D.left_since; images = images; left_before = I.left input.old; left_after = I.left input.new; written_before = W.written output.old; written_after = W.written output.new; sink = T.Sink; text_of = T.Sink.written; trails_after = T.kept trails.new }) core.node (head_by S.meaning settings.now parts.now) parts.now.entries store result.disks result.status }
     ensures refused { (entry : ℕ) → result.status ≡ NodeStatus.Store entry → ⊥ }
     ensures read { result.status ≡ NodeStatus.ReadFault → Rose (I.faults input.old) (I.faults input.new) }
     ensures write { result.status ≡ NodeStatus.WriteFault → Rose (W.faults output.old) (W.faults output.new) }
@@ -166,7 +167,7 @@ where
     T::Sink: Send,
     requires restored { store.plan.restored ≡ length kept.entries }
     requires opened { IsOpened D.told D.cells store }
-    ensures ended { (images : Images) → (D.told → kept ≡ restores images) → RunOver (record { meaning = S.meaning; settings = settings.now; told = D.told; images = images; left_before = I.left input.old; left_after = I.left input.new; written_before = W.written output.old; written_after = W.written output.new; sink = T.Sink; text_of = T.Sink.written; trails_after = T.kept trails.new }) result.disks result.status }
+    ensures ended { (images : Images) → (D.told → kept ≡ restores images) → OpensWith D.told D.cells images kept store → RunOver (record { meaning = S.meaning; settings = settings.now; disk = D; told = D.told; remembers = D.remembers; cells = D.cells; moment = D.moment; left_since = D.left_since; images = images; left_before = I.left input.old; left_after = I.left input.new; written_before = W.written output.old; written_after = W.written output.new; sink = T.Sink; text_of = T.Sink.written; trails_after = T.kept trails.new }) store.disks result.disks result.status }
     ensures read { result.status ≡ NodeStatus.ReadFault → Rose (I.faults input.old) (I.faults input.new) }
     ensures write { result.status ≡ NodeStatus.WriteFault → Rose (W.faults output.old) (W.faults output.new) }
     ensures trail { result.status ≡ NodeStatus.TrailFault → Rose (T.faults trails.old) (T.faults trails.new) }
@@ -209,7 +210,7 @@ fn over_disks<
 where
     T::Sink: Send,
     requires { D.told → AreSettled D.cells disks }
-    ensures ended { RunOver (record { meaning = S.meaning; settings = settings.now; told = D.told; images = contents D.cells disks; left_before = I.left input.old; left_after = I.left input.new; written_before = W.written output.old; written_after = W.written output.new; sink = T.Sink; text_of = T.Sink.written; trails_after = T.kept trails.new }) result.disks result.status }
+    ensures ended { RunOver (record { meaning = S.meaning; settings = settings.now; disk = D; told = D.told; remembers = D.remembers; cells = D.cells; moment = D.moment; left_since = D.left_since; images = contents D.cells disks; left_before = I.left input.old; left_after = I.left input.new; written_before = W.written output.old; written_after = W.written output.new; sink = T.Sink; text_of = T.Sink.written; trails_after = T.kept trails.new }) disks result.disks result.status }
     ensures read { result.status ≡ NodeStatus.ReadFault → Rose (I.faults input.old) (I.faults input.new) }
     ensures write { result.status ≡ NodeStatus.WriteFault → Rose (W.faults output.old) (W.faults output.new) }
     ensures trail { result.status ≡ NodeStatus.TrailFault → Rose (T.faults trails.old) (T.faults trails.new) }
@@ -236,7 +237,8 @@ where
 ///
 /// The frames that are read and are not empty arrive at the node in order; what its trail sends is written
 /// as frames in order. What it says needs no more entries than its store holds firm. Its devices are taken
-/// from a room and put back, and its trail is kept in another.
+/// from a room and put back, and its trail is kept in another. All other disks of the room stay as they
+/// are, and so do its own if no life is lived over them.
 pub fn run_member<
     S: Service + Send,
     M: DiskRoom,
@@ -260,7 +262,7 @@ pub fn run_member<
 where
     M::Disk: Send,
     T::Sink: Send,
-    ensures ended { RunEnd (record { meaning = S.meaning; settings = settings.now; told = M.Disk.told; images = images_at (M.cells room.old) settings.now.dir settings.now.member; left_before = I.left input.old; left_after = I.left input.new; written_before = W.written output.old; written_after = W.written output.new; sink = T.Sink; text_of = T.Sink.written; trails_after = T.kept trails.new }) M.Disk.cells (M.cells room.new) result }
+    ensures ended { RunEnd (record { meaning = S.meaning; settings = settings.now; disk = M.Disk; told = M.Disk.told; remembers = M.Disk.remembers; cells = M.Disk.cells; moment = M.Disk.moment; left_since = M.Disk.left_since; images = images_at (M.cells room.old) settings.now.dir settings.now.member; left_before = I.left input.old; left_after = I.left input.new; written_before = W.written output.old; written_after = W.written output.new; sink = T.Sink; text_of = T.Sink.written; trails_after = T.kept trails.new }) (record { before = M.cells room.old; after = M.cells room.new; taken_before = M.taken room.old; taken_after = M.taken room.new }) result }
     ensures read { result ≡ NodeStatus.ReadFault → Rose (I.faults input.old) (I.faults input.new) }
     ensures write { result ≡ NodeStatus.WriteFault → Rose (W.faults output.old) (W.faults output.new) }
     ensures trail { result ≡ NodeStatus.TrailFault → Rose (T.faults trails.old) (T.faults trails.new) }

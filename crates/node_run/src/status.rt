@@ -4,7 +4,7 @@ ghost use Rattle.node_run.specs.Statuses.{is_whole, restore_status, room_status,
 
 use faults::Fault;
 use member_opening::fault::RestoreFault;
-use node_threads::ending::{Ends, LoopEnd};
+use node_endings::ending::{Ends, LoopEnd};
 use store_form::ends::LogFault;
 
 /// How the run of a node ended. Of several ends it is the first of this list.

@@ -1,29 +1,30 @@
--- What a loop's answer says of the call that made it.
-use Rattle.std.proofs.Common.{◌≡◌, ◌≤◌, ℕ, ◌+◌, ◌-◌, ◌^◌, min, Bool, true, false, not, List, Option, sym, subst, arith}
-use Rattle.std.proofs.lemmas.Bool.Decides.{nat_tests}
-use Rattle.durable_store.specs.Disks.{DiskRose}
-use Rattle.durable_store.specs.declared.disks.Disks.{Disks}
-use Rattle.check_worker.specs.Hands.{last_then}
-use Rattle.node_ends.specs.Intakes.{Reads, IsCutOff}
-use Rattle.node_ends.specs.Outlets.{Writes}
+-- What the records on the ends of loops say.
+use Rattle.std.proofs.Common.{◌≡◌, ◌≤◌, ℕ, ◌+◌, ◌-◌, ◌^◌, min, List, length, Option}
+use Rattle.std.specs.Io.KnownBytes.{IsAtEnd}
+use Rattle.durable_store.specs.Disks.{DiskRose, NoneFell}
+use Rattle.durable_store.specs.declared.store.Store.{Store}
+use Rattle.node_ends.specs.Intakes.{IsCutOff, IsDone}
 use Rattle.node_ends.specs.declared.intake.Intake.{Intake}
-use Rattle.node_ends.specs.declared.outlet.Outlet.{Outlet}
-use Rattle.node_threads.specs.Loops.{FailsByDisk, EndsByForm}
-use Rattle.node_threads.specs.declared.ending.LoopEnd.{LoopEnd}
-use Rattle.node_threads.specs.declared.ending.LoopEnd.TheVariants.{Form, Failed}
+use Rattle.node_endings.specs.Loops.{EndsByForm}
+use Rattle.node_endings.specs.declared.ending.LoopEnd.{LoopEnd}
+use Rattle.node_endings.specs.declared.ending.LoopEnd.TheVariants.{Done, Form, Failed}
+use Rattle.node_threads.specs.Works.{EndsWhole, WorkMade}
 
-pub reads-by : (a b : Option (List ℕ)) (cut early : Bool) (i j : Intake) → cut ≡ early → Reads a b early i j → Reads a b cut i j
-reads-by a b cut early i j is p = subst (λ (l : Bool). Reads a b l i j) (sym is) p
+module _ {D : Type 0} (counts : D → ℕ) (restored : ℕ) (end : LoopEnd) (taken : List (List ℕ)) (raised : ℕ) (old new : Store D) (made : WorkMade counts restored end taken raised old new) where
+  pub made_rose : old.plan.firm ≤ new.plan.firm
+  made_rose = made.rose
 
-pub writes-by : (a b : Option (List ℕ)) (up : Bool) (i j : Outlet) → up ≡ true → Writes a b false i j → Writes a b (not up) i j
-writes-by a b up i j is p = subst (λ (l : Bool). Writes a b (not l) i j) (sym is) p
+  pub made_stored : end ≡ Done → min (new.plan.firm - restored) (length taken) ≤ raised
+  made_stored = made.stored
 
-pub last_up : (last place : ℕ) → last ≤ last_then last place
-last_up last place = grind (arith, nat_tests)
+  pub made_failed : end ≡ Failed → DiskRose counts old.disks new.disks
+  made_failed = made.cause.rose
 
--- what the records say
-pub disk_rose : {D : Type 0} (end : LoopEnd) (counts : D → ℕ) (old new : Disks D) → FailsByDisk end counts old new → end ≡ Failed → DiskRose counts old new
-disk_rose end counts old new by = by.rose
+  pub made_later : NoneFell counts old.disks new.disks
+  made_later = made.later
 
 pub form_cut : (end : LoopEnd) (left : Option (List ℕ)) (i : Intake) → EndsByForm end left i → (frame : ℕ) → end ≡ Form frame → (frame ≡ min (i.count + 1) (2 ^ 64 - 1)) × IsCutOff left i
 form_cut end left i by = by.cut
+
+pub whole_end : (end : LoopEnd) (left : Option (List ℕ)) (i : Intake) → EndsWhole end left i → end ≡ Done → IsAtEnd left × IsDone i
+whole_end end left i by = by.done

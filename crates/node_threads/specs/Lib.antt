@@ -1,3 +1,1 @@
-pub mod Delivered
-pub mod Loops
-pub mod Settled
+pub mod Works

@@ -1,11 +1,4 @@
-//! One member's node in threads: its seat under a lock, the five loops that share it, and what is left
-//! once they are joined.
+//! The five loops of one member's node, each in a thread of its own, until all have ended.
 #![tactic(auto)]
 
-pub mod cell;
-pub mod ending;
-pub mod finishing;
-pub mod loops;
 pub mod running;
-pub mod settling;
-pub mod steps;

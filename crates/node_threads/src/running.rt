@@ -6,22 +6,23 @@ ghost use Rattle.faults.specs.Counts.{Rose};
 ghost use Rattle.durable_store.specs.Disks.{NoneFell, DiskRose};
 ghost use Rattle.durable_store.specs.Stores.{state_of, Stands};
 ghost use Rattle.log_lane.specs.Lane.{lane_taken, lane_raised};
-ghost use Rattle.group_links.specs.Link.{in_link, out_link, link_taken, link_heard_put};
-ghost use Rattle.queue_ends.specs.Rule.{IsFront};
+ghost use Rattle.group_links.specs.Link.{in_link, out_link};
 ghost use Rattle.node_ends.specs.Intakes.{Reads, IsDone, IsCutOff};
 ghost use Rattle.node_ends.specs.Outlets.{Writes};
-ghost use Rattle.node_threads.specs.Loops.{gave_up, loses, FailsByDisk};
+ghost use Rattle.node_endings.specs.Loops.{gave_up, loses, EndsByForm};
+ghost use Rattle.node_loops.specs.Rounds.{RoundsOf};
+ghost use Rattle.node_threads.specs.Works.{EndsWhole, MayWork, WorkMade};
 
-use crate::ending::{Ends, LoopEnd};
-use crate::loops::{check_loop, deliver_loop, log_loop, receive_loop, send_loop};
 use check_worker::worker::CheckWorker;
 use clock_gate::clock::Clock;
 use clock_gate::gate::Gate;
 use disk_model::disk::Disk;
 use log_worker::home::Home;
 use log_worker::worker::LogWorker;
+use node_endings::ending::{Ends, LoopEnd};
 use node_ends::intake::Intake;
 use node_ends::outlet::Outlet;
+use node_loops::loops::{check_loop, deliver_loop, log_loop, receive_loop, send_loop};
 use node_seat::place::Place;
 use node_seat::seat::NodeCell;
 use smart_base::name::MemberId;
@@ -32,25 +33,60 @@ use std::sync::atomic::AtomicBool;
 use std::thread::{Threads, join_mut};
 use store_plan::stops::Stops;
 
+/// Why the loops ended that read the input and step the core.
+struct InEnds {
+    received: LoopEnd,
+    delivered: LoopEnd,
+}
+
 /// Why the loops ended that work on the log.
-#[derive(Clone, Copy, Debug, PartialEq, Eq)]
-pub struct WorkEnds {
-    pub logged: LoopEnd,
-    pub checked: LoopEnd,
+struct WorkEnds {
+    logged: LoopEnd,
+    checked: LoopEnd,
 }
 
 /// Why the loops ended that let messages leave and work on the log.
-#[derive(Clone, Copy, Debug, PartialEq, Eq)]
-pub struct OutEnds {
-    pub sent: LoopEnd,
-    pub work: WorkEnds,
+struct OutEnds {
+    sent: LoopEnd,
+    work: WorkEnds,
 }
 
-/// Why all loops ended but the one that reads.
-#[derive(Clone, Copy, Debug, PartialEq, Eq)]
-pub struct CoreEnds {
-    pub delivered: LoopEnd,
-    pub out: OutEnds,
+/// Reads the input in one thread, and steps the core in this one.
+fn read_and_step<
+    S: Service + Send,
+    P: Place<S> + Send,
+    O: Sink + Send,
+    I: Source + Send,
+    K: Clock,
+    G: Gate + Sync,
+    R: Threads + Wait + Sync,
+>(
+    rt: &R,
+    cell: &NodeCell<S, P, O>,
+    gate: &G,
+    member: &MemberId,
+    quiet: &AtomicBool,
+    input: &mut I,
+    intake: &mut Intake,
+    clock: &mut K,
+) -> InEnds
+    ensures link { in_link intake.new.link ≡ in_link intake.old.link }
+    ensures reads { Reads (I.left input.old) (I.left input.new) (loses result.received) intake.old intake.new }
+    ensures whole { EndsWhole result.received (I.left input.new) intake.new }
+    ensures form { EndsByForm result.received (I.left input.new) intake.new }
+    ensures cause { result.received ≡ LoopEnd.Failed → Rose (I.faults input.old) (I.faults input.new) }
+    ensures later { I.faults input.old ≤ I.faults input.new }
+    ensures delivered { gave_up result.delivered ≡ false }
+{
+    let (received, delivered) = join_mut(
+        rt,
+        &mut || receive_loop(rt, cell, gate, member, quiet, input, intake),
+        &mut || deliver_loop(rt, cell, gate, member, quiet, clock),
+    );
+    InEnds {
+        received,
+        delivered,
+    }
 }
 
 /// Makes the rounds of both workers, those of the log in this thread.
@@ -72,12 +108,9 @@ fn log_and_check<
     worker: &mut LogWorker<D, H>,
     checker: &mut CheckWorker,
 ) -> WorkEnds
-    requires whole { worker.old.faulty ≡ false }
-    requires sound { D.told → Stands (state_of D.cells worker.old.store) }
-    ensures rose { worker.old.store.plan.firm ≤ worker.new.store.plan.firm }
-    ensures raised { result.logged ≡ LoopEnd.Done → min (worker.new.store.plan.firm - H.restored) (length (lane_taken worker.new.lane)) ≤ lane_raised worker.new.lane }
-    ensures cause { FailsByDisk result.logged D.faults worker.old.store.disks worker.new.store.disks }
-    ensures later { NoneFell D.faults worker.old.store.disks worker.new.store.disks }
+    requires work { MayWork D.told D.cells worker.old.faulty worker.old.store }
+    ensures made { WorkMade D.faults H.restored result.logged (lane_taken worker.new.lane) (lane_raised worker.new.lane) worker.old.store worker.new.store }
+    ensures rounds { RoundsOf D.told D.remembers D.cells D.moment D.left_since E.stops S.meaning P.opening H.restored worker.new.faulty (lane_taken worker.old.lane) (lane_taken worker.new.lane) worker.old.store worker.new.store }
     ensures rises { checker.old.last ≤ checker.new.last }
     ensures no_disk { result.checked ≡ LoopEnd.Failed → ⊥ }
 {
@@ -111,78 +144,27 @@ fn send_and_work<
     worker: &mut LogWorker<D, H>,
     checker: &mut CheckWorker,
 ) -> OutEnds
-    requires whole { worker.old.faulty ≡ false }
-    requires sound { D.told → Stands (state_of D.cells worker.old.store) }
+    requires work { MayWork D.told D.cells worker.old.faulty worker.old.store }
     ensures link { out_link outlet.new.link ≡ out_link outlet.old.link }
     ensures wrote { Writes (W.written output.old) (W.written output.new) (not (gave_up result.sent)) outlet.old outlet.new }
-    ensures sent { result.sent ≡ LoopEnd.Failed → Rose (W.faults output.old) (W.faults output.new) }
-    ensures rose { worker.old.store.plan.firm ≤ worker.new.store.plan.firm }
-    ensures raised { result.work.logged ≡ LoopEnd.Done → min (worker.new.store.plan.firm - H.restored) (length (lane_taken worker.new.lane)) ≤ lane_raised worker.new.lane }
-    ensures logged { FailsByDisk result.work.logged D.faults worker.old.store.disks worker.new.store.disks }
+    ensures cause { result.sent ≡ LoopEnd.Failed → Rose (W.faults output.old) (W.faults output.new) }
+    ensures later { W.faults output.old ≤ W.faults output.new }
+    ensures made { WorkMade D.faults H.restored result.work.logged (lane_taken worker.new.lane) (lane_raised worker.new.lane) worker.old.store worker.new.store }
+    ensures rounds { RoundsOf D.told D.remembers D.cells D.moment D.left_since E.stops S.meaning P.opening H.restored worker.new.faulty (lane_taken worker.old.lane) (lane_taken worker.new.lane) worker.old.store worker.new.store }
     ensures checked { result.work.checked ≡ LoopEnd.Failed → ⊥ }
-    ensures later { (W.faults output.old ≤ W.faults output.new) × NoneFell D.faults worker.old.store.disks worker.new.store.disks }
 {
     let (sent, work) = join_mut(
         rt,
         &mut || send_loop(rt, cell, gate, member, quiet, output, outlet),
         &mut || -> WorkEnds
-            requires { IsSend S.row × (IsSend P.row × (IsSend O.row × ((worker.now.faulty ≡ false) × (D.told → Stands (state_of D.cells worker.now.store))))) }
+            requires { IsSend S.row × (IsSend P.row × (IsSend O.row × MayWork D.told D.cells worker.now.faulty worker.now.store)) }
         { log_and_check::<S, P, O, D, E, H, G, R>(rt, cell, gate, member, quiet, worker, checker) },
     );
     OutEnds { sent, work }
 }
 
-/// Steps the core in one thread, beside those that let messages leave and work on the log.
-fn step_and_work<
-    S: Service + Send,
-    P: Place<S> + Send,
-    O: Sink + Send,
-    K: Clock + Send,
-    W: Sink + Send,
-    D: Disk,
-    E: Stops,
-    H: Home,
-    G: Gate + Sync,
-    R: Threads + Wait + Sync,
->(
-    rt: &R,
-    cell: &NodeCell<S, P, O>,
-    gate: &G,
-    member: &MemberId,
-    quiet: &AtomicBool,
-    clock: &mut K,
-    output: &mut W,
-    outlet: &mut Outlet,
-    worker: &mut LogWorker<D, H>,
-    checker: &mut CheckWorker,
-) -> CoreEnds
-    requires whole { worker.old.faulty ≡ false }
-    requires sound { D.told → Stands (state_of D.cells worker.old.store) }
-    ensures link { out_link outlet.new.link ≡ out_link outlet.old.link }
-    ensures wrote { Writes (W.written output.old) (W.written output.new) (not (gave_up result.out.sent)) outlet.old outlet.new }
-    ensures sent { result.out.sent ≡ LoopEnd.Failed → Rose (W.faults output.old) (W.faults output.new) }
-    ensures rose { worker.old.store.plan.firm ≤ worker.new.store.plan.firm }
-    ensures raised { result.out.work.logged ≡ LoopEnd.Done → min (worker.new.store.plan.firm - H.restored) (length (lane_taken worker.new.lane)) ≤ lane_raised worker.new.lane }
-    ensures logged { FailsByDisk result.out.work.logged D.faults worker.old.store.disks worker.new.store.disks }
-    ensures checked { result.out.work.checked ≡ LoopEnd.Failed → ⊥ }
-    ensures later { (W.faults output.old ≤ W.faults output.new) × NoneFell D.faults worker.old.store.disks worker.new.store.disks }
-{
-    let (delivered, out) = join_mut(
-        rt,
-        &mut || deliver_loop(rt, cell, gate, member, quiet, clock),
-        &mut || -> OutEnds
-            requires { IsSend S.row × (IsSend P.row × (IsSend O.row × (IsSend W.row × ((worker.now.faulty ≡ false) × (D.told → Stands (state_of D.cells worker.now.store)))))) }
-        {
-            send_and_work::<S, P, O, W, D, E, H, G, R>(
-                rt, cell, gate, member, quiet, output, outlet, worker, checker,
-            )
-        },
-    );
-    CoreEnds { delivered, out }
-}
-
 /// Runs the five loops of a node, each in a thread, until all have ended.
-#[tactic(auto, using(crate::proofs::Ends::disk_rose))]
+#[tactic(auto, using(crate::proofs::Ends::made_rose, crate::proofs::Ends::made_stored, crate::proofs::Ends::made_failed, crate::proofs::Ends::made_later))]
 pub fn run_loops<
     S: Service + Send,
     P: Place<S> + Send,
@@ -216,30 +198,45 @@ pub fn run_loops<
     ensures whole { result.received ≡ LoopEnd.Done → IsAtEnd (I.left input.new) × IsDone intake.new }
     ensures form { (frame : ℕ) → result.received ≡ LoopEnd.Form frame → (frame ≡ min (intake.new.count + 1) (2 ^ 64 - 1)) × IsCutOff (I.left input.new) intake.new }
     ensures received { result.received ≡ LoopEnd.Failed → Rose (I.faults input.old) (I.faults input.new) }
+    ensures delivered { gave_up result.delivered ≡ false }
     ensures wrote { Writes (W.written output.old) (W.written output.new) (not (gave_up result.sent)) outlet.old outlet.new }
     ensures sent { result.sent ≡ LoopEnd.Failed → Rose (W.faults output.old) (W.faults output.new) }
     ensures rose { worker.old.store.plan.firm ≤ worker.new.store.plan.firm }
     ensures raised { result.logged ≡ LoopEnd.Done → min (worker.new.store.plan.firm - H.restored) (length (lane_taken worker.new.lane)) ≤ lane_raised worker.new.lane }
     ensures logged { result.logged ≡ LoopEnd.Failed → DiskRose D.faults worker.old.store.disks worker.new.store.disks }
+    // The worker is the one before, after some rounds.
+    ensures rounds { RoundsOf D.told D.remembers D.cells D.moment D.left_since E.stops S.meaning P.opening H.restored worker.new.faulty (lane_taken worker.old.lane) (lane_taken worker.new.lane) worker.old.store worker.new.store }
     ensures checked { result.checked ≡ LoopEnd.Failed → ⊥ }
     ensures later { (I.faults input.old ≤ I.faults input.new) × ((W.faults output.old ≤ W.faults output.new) × NoneFell D.faults worker.old.store.disks worker.new.store.disks) }
 {
-    let (received, rest) = join_mut(
+    let (came, left) = join_mut(
         rt,
-        &mut || receive_loop(rt, cell, gate, member, quiet, input, intake),
-        &mut || -> CoreEnds
-            requires { IsSend S.row × (IsSend P.row × (IsSend O.row × (IsSend K.row × (IsSend W.row × ((worker.now.faulty ≡ false) × (D.told → Stands (state_of D.cells worker.now.store))))))) }
+        &mut || -> InEnds
+            requires { IsSend S.row × (IsSend P.row × (IsSend O.row × IsSend I.row)) }
         {
-            step_and_work::<S, P, O, K, W, D, E, H, G, R>(
-                rt, cell, gate, member, quiet, clock, output, outlet, worker, checker,
+            read_and_step::<S, P, O, I, K, G, R>(
+                rt, cell, gate, member, quiet, input, intake, clock,
+            )
+        },
+        &mut || -> OutEnds
+            requires { IsSend S.row × (IsSend P.row × (IsSend O.row × (IsSend W.row × MayWork D.told D.cells worker.now.faulty worker.now.store))) }
+        {
+            send_and_work::<S, P, O, W, D, E, H, G, R>(
+                rt, cell, gate, member, quiet, output, outlet, worker, checker,
             )
         },
     );
+    let InEnds {
+        received,
+        delivered,
+    } = came;
+    let OutEnds { sent, work } = left;
+    let WorkEnds { logged, checked } = work;
     Ends {
         received,
-        delivered: rest.delivered,
-        sent: rest.out.sent,
-        logged: rest.out.work.logged,
-        checked: rest.out.work.checked,
+        delivered,
+        sent,
+        logged,
+        checked,
     }
 }

@@ -3,26 +3,54 @@ use Rattle.std.proofs.Common.{◌≡◌, ◌∙◌, ◌⊎◌, ap, inl, inr, ref
 use Rattle.std.specs.List.{flat_map}
 use Rattle.frame_stream.specs.Frames.{framed}
 use Rattle.store_laws.specs.Restored.{restores}
+use Rattle.store_laws.specs.States.{Devices}
 use Rattle.store_laws.specs.declared.job.Kept.{Kept}
+use Rattle.member_opening.specs.Devices.{AreWithin, devices_at}
 use Rattle.member_opening.specs.Restorings.{parts_in, store_fault}
+use Rattle.member_opening.specs.declared.settings.Settings.{Settings}
 use Rattle.app_kv.specs.declared.store.Entry.{Entry}
 use Rattle.disk_model.specs.Cells.{Cells}
-use Rattle.disk_model.specs.Rooms.{Address}
+use Rattle.disk_model.specs.Rooms.{Address, address}
 use Rattle.command_words.specs.declared.command.Command.{Command}
 use Rattle.command_words.specs.declared.command.Command.TheVariants as commands
 use Rattle.command_words.specs.declared.node_words.NodeWords.{NodeWords}
 use Rattle.script_play.specs.declared.status.Status.{Status}
 use Rattle.script_play.specs.declared.status.Status.TheVariants as ends
-use Rattle.node_run.specs.Members.{Run, RunEnd}
+use Rattle.node_run.specs.Members.{HasKept, HasLeft, KeepsRoom, Room, Run}
 use Rattle.node_run.specs.declared.status.NodeStatus.{NodeStatus}
 use Rattle.node_run.specs.declared.status.NodeStatus.TheVariants as nodes
 use Rattle.smart_top.specs.Nodes.{IsFrames, NodeEnd, status_by}
 use Rattle.smart_top.proofs.WholeFrames.{consumes_read, never_cut}
 
+-- a room that is as it was
+still-room : (s : Settings) (room : Room) → room.after ≡ room.before → room.taken_after ≡ room.taken_before → KeepsRoom s room
+still-room s room same same-taken = record {
+  beside = λ other a b c d. ap (λ (f : Address → Cells). f other) same;
+  beside_taken = λ other a b c d. ap (λ (f : Address → Option ℕ). f other) same-taken;
+  back = (
+    (ap (λ (f : Address → Option ℕ). f (address s.dir s.member 0)) same-taken, ap (λ (f : Address → Option ℕ). f (address s.dir s.member 1)) same-taken),
+    (ap (λ (f : Address → Option ℕ). f (address s.dir s.member 2)) same-taken, ap (λ (f : Address → Option ℕ). f (address s.dir s.member 3)) same-taken),
+  );
+}
+
+within-still : (d : Devices) → AreWithin d d
+within-still d = record { even_log = λ image is. is; odd_log = λ image is. is; even_slot = λ image is. is; odd_slot = λ image is. is }
+
+still-within : (s : Settings) (room : Room) → room.after ≡ room.before → AreWithin (devices_at room.after s.dir s.member) (devices_at room.before s.dir s.member)
+still-within s room same =
+    subst (λ (f : Address → Cells). AreWithin (devices_at f s.dir s.member) (devices_at room.before s.dir s.member)) (sym same) (within-still (devices_at room.before s.dir s.member))
+
 -- it had no memory before it read anything
-pub unread_node : {D : Type 0} (r : Run (List Entry)) (cells : D → Cells) (room : Address → Cells) → r.left_after ≡ r.left_before → r.written_after ≡ r.written_before → NodeEnd r cells room ends.NoMemory
-unread_node r cells room unread unwritten =
-    record { node = nodes.NoMemory; is = refl; ended = inl (record { why = tt; unread = unread; unwritten = unwritten }) }
+pub unread_node : (r : Run (List Entry)) (room : Room) → r.left_after ≡ r.left_before → r.written_after ≡ r.written_before → room.after ≡ room.before → room.taken_after ≡ room.taken_before
+    → NodeEnd r room ends.NoMemory
+unread_node r room unread unwritten same same-taken = record {
+  node = nodes.NoMemory;
+  is = refl;
+  ended = record {
+    keeps = still-room r.settings room same same-taken;
+    ended = inl (record { none = record { why = tt; unread = unread; unwritten = unwritten }; same = λ told. inr tt; within = λ told. still-within r.settings room same });
+  };
+}
 
 -- words name one node
 pub same_node : (command : Option Command) (words other : NodeWords) → command ≡ Some (commands.Node words) → command ≡ Some (commands.Node other) → other ≡ words
@@ -78,11 +106,11 @@ disk_failed node is = node_ended node ends.DiskFault is
 none-some : (fault : Option ℕ) (entry : ℕ) → fault ≡ None → fault ≡ Some entry → ⊥
 none-some fault entry none is = absurd (cc)
 
-module _ {D : Type 0} (r : Run (List Entry)) (cells : D → Cells) (room : Address → Cells) (input : IsFrames r.left_before) (told : r.told) (sound : store_fault r.meaning r.settings (parts_in (restores r.images)) ≡ None)
+module _ (r : Run (List Entry)) (room : Room) (input : IsFrames r.left_before) (told : r.told) (sound : store_fault r.meaning r.settings (parts_in (restores r.images)) ≡ None)
     (status : Status) (read : status ≡ ends.ReadFault → ⊥) (write : status ≡ ends.WriteFault → ⊥) (trail : status ≡ ends.TrailFault → ⊥) (disk : status ≡ ends.DiskFault → ⊥) where
-  complete-by : (node : NodeStatus) → status ≡ status_by node → RunEnd r cells room node → (status ≡ ends.Ok) ⊎ (status ≡ ends.NoMemory)
+  complete-by : (node : NodeStatus) → status ≡ status_by node → HasLeft r room node ⊎ HasKept r room node → (status ≡ ends.Ok) ⊎ (status ≡ ends.NoMemory)
   complete-by nodes.Ok is e = inl is
-  complete-by (nodes.Form frame) is (inl e) = absurd e.why
+  complete-by (nodes.Form frame) is (inl e) = absurd e.none.why
   complete-by (nodes.Form frame) is (inr e) =
       let l = e.lived.over.life.lived in
       let off = e.lived.over.life.ends in
@@ -90,7 +118,7 @@ module _ {D : Type 0} (r : Run (List Entry)) (cells : D → Cells) (room : Addre
       (consumes_read r.left_before r.left_after (flat_map framed input.frames) l.read l.lost input.is off.none_lost l.consumed) l.cut off.cut_off)
   complete-by (nodes.Store entry) is (inl e) =
       absurd (none-some (store_fault r.meaning r.settings (parts_in (restores r.images))) entry sound
-      (subst (λ (kept : Kept). store_fault r.meaning r.settings (parts_in kept) ≡ Some entry) (e.why.restored told) e.why.fault))
+      (subst (λ (kept : Kept). store_fault r.meaning r.settings (parts_in kept) ≡ Some entry) (e.none.why.restored told) e.none.why.fault))
   complete-by (nodes.Store entry) is (inr e) = absurd e.lived.over.life.ends
   complete-by nodes.ReadFault is e = absurd (read is)
   complete-by nodes.WriteFault is e = absurd (write is)
@@ -99,5 +127,5 @@ module _ {D : Type 0} (r : Run (List Entry)) (cells : D → Cells) (room : Addre
   complete-by nodes.NoMemory is e = inr is
 
   -- a node whose input is whole frames, over devices that hold nothing without meaning, ends well if nothing fails, or for want of memory
-  pub node_is_complete : NodeEnd r cells room status → (status ≡ ends.Ok) ⊎ (status ≡ ends.NoMemory)
-  node_is_complete e = complete-by e.node e.is e.ended
+  pub node_is_complete : NodeEnd r room status → (status ≡ ends.Ok) ⊎ (status ≡ ends.NoMemory)
+  node_is_complete e = complete-by e.node e.is e.ended.ended

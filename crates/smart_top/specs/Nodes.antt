@@ -3,8 +3,6 @@ use Rattle.std.specs.Prelude.{◌≡◌, ℕ, List, Option, Some, None}
 use Rattle.std.specs.List.{flat_map}
 use Rattle.smart_base.specs.Lists.{Each}
 use Rattle.smart_base.specs.Views.{View}
-use Rattle.disk_model.specs.Cells.{Cells}
-use Rattle.disk_model.specs.Rooms.{Address}
 use Rattle.frame_stream.specs.Frames.{framed, IsShort}
 use Rattle.store_laws.specs.Restored.{Images, restores}
 use Rattle.app_kv.specs.Snapshots.{keeping}
@@ -18,7 +16,7 @@ use Rattle.command_words.specs.declared.node_words.NodeWords.{NodeWords}
 use Rattle.trail.specs.declared.opening.App.TheVariants as apps
 use Rattle.member_opening.specs.Restorings.{parts_in, store_fault}
 use Rattle.member_opening.specs.declared.settings.Settings.{Settings}
-use Rattle.node_run.specs.Members.{Run, RunEnd}
+use Rattle.node_run.specs.Members.{Room, Run, RunEnd}
 use Rattle.node_run.specs.declared.status.NodeStatus.{NodeStatus}
 use Rattle.node_run.specs.declared.status.NodeStatus.TheVariants as nodes
 
@@ -51,8 +49,8 @@ pub record IsFrames (left : Option (List ℕ)) : Type 0 where
 abbrev pub HaveMeaning : NodeWords → Images → Type 0
 HaveMeaning w images = store_fault keeping (settings_of w) (parts_in (restores images)) ≡ None
 
--- How a run of `node` ended.
-pub record NodeEnd {D : Type 0} (r : Run (List Entry)) (cells : D → Cells) (room : Address → Cells) (status : Status) : Type 0 where
+-- How a run of `node` ended, and what it left in the room of its devices.
+pub record NodeEnd (r : Run (List Entry)) (room : Room) (status : Status) : Type 0 where
   pub node : NodeStatus
   pub is : status ≡ status_by node
-  pub ended : RunEnd r cells room node
+  pub ended : RunEnd r room node

@@ -1,5 +1,6 @@
 use Rattle.std.proofs.Common.{◌∙◌, refl, sym, subst, arith}
-use Rattle.node_run.specs.Lives.{Life, LifeEnd}
+use Rattle.node_run.specs.Lives.{Life}
+use Rattle.node_run.specs.Rounds.{LifeFrom}
 use Rattle.node_run.proofs.Beginning.{headless, seatless}
 use Rattle.node_run.proofs.Refused.{none-fell, trail-failed}
 use Rattle.node_run.proofs.life.run_named.Goals as goal
@@ -22,7 +23,8 @@ returns-in-Err-clause-ended g c =
       told_after = g.O.Sink.written c.write_head.new.sink;
       firm = c.args.store.plan.firm;
     } in
-    subst (LifeEnd life) (sym c.trail_status.ensures) (headless life refl refl (omega (arith, c.requires.core.1.firm, c.requires.opened.firm)) c.in-Err.fault c.in-Err.ensures.err)
+    subst (LifeFrom g.D.Disk.told g.D.Disk.remembers g.D.Disk.cells g.D.Disk.moment g.D.Disk.left_since life c.args.store.plan.restored c.args.store c.args.store) (sym c.trail_status.ensures)
+    (headless g.D.Disk.told g.D.Disk.remembers g.D.Disk.cells g.D.Disk.moment g.D.Disk.left_since life c.args.store.plan.restored c.args.store refl refl (omega (arith, c.requires.core.1.firm, c.requires.opened.firm)) c.in-Err.fault c.in-Err.ensures.err)
 
 pub returns-in-Err-clause-trail : goal.returns-in-Err-clause-trail
 returns-in-Err-clause-trail g c e = trail-failed _ _ c.in-Err.fault c.in-Err.ensures.cause (sym c.trail_status.ensures ∙ e)
@@ -73,11 +75,29 @@ run_seated-requires-clause-arriving g c = λ _ _. (sym c.requires.links.0, c.req
 pub run_seated-requires-clause-leaving : goal.run_seated-requires-clause-leaving
 run_seated-requires-clause-leaving g c = λ _ _. (sym c.requires.fresh.leaving ∙ sym c.requires.links.1, c.requires.fresh.none_wrote)
 
+pub run_seated-requires-clause-taken : goal.run_seated-requires-clause-taken
+run_seated-requires-clause-taken g c = λ _ _. rw c.new-worker.ensures.lane c.requires.fresh.none_taken
+
 pub run_seated-requires-clause-sound : goal.run_seated-requires-clause-sound
 run_seated-requires-clause-sound g c = λ _ _. c.new-worker.ensures.stands c.requires.opened.stands
 
 pub returns-in-Ok-clause-ended : goal.returns-in-Ok-clause-ended
-returns-in-Ok-clause-ended g c = rw (c.requires.opening.0, c.requires.opening.1.0, c.requires.opening.1.1, c.requires.begun.0) at c.run_seated.ensures.ended
+returns-in-Ok-clause-ended g c =
+    let ended = rw (c.requires.opening.0, c.requires.opening.1.0, c.requires.opening.1.1, c.requires.begun.0, c.requires.lane.1) at c.run_seated.ensures.ended in
+    let worker = c.new-worker.ensures in
+    record {
+      end = ended.0;
+      begun = c.new-worker.result.store;
+      as_opened = record {
+        disks = worker.disks;
+        firm = worker.store.0;
+        generation = worker.store.1;
+        waiting = worker.waiting.0;
+        state = worker.waiting.1;
+        plan = worker.told;
+      };
+      left_by = ended.1;
+    }
 
 pub returns-in-Ok-clause-trail : goal.returns-in-Ok-clause-trail
 returns-in-Ok-clause-trail g c = rw c.requires.begun.1 at c.run_seated.ensures.trail
@@ -106,7 +126,7 @@ returns-in-Err-seated-clause-ended g c =
       told_after = g.O.Sink.written c.in-Err-seated.sink;
       firm = c.args.store.plan.firm;
     } in
-    seatless life refl refl (omega (arith, c.requires.core.1.firm, c.requires.opened.firm)) (rw (← c.in-Err-seated.ensures.back) at c.in_default.ensures.ok)
+    seatless g.D.Disk.told g.D.Disk.remembers g.D.Disk.cells g.D.Disk.moment g.D.Disk.left_since life c.args.store.plan.restored c.args.store refl refl (omega (arith, c.requires.core.1.firm, c.requires.opened.firm)) (rw (← c.in-Err-seated.ensures.back) at c.in_default.ensures.ok)
 
 pub returns-in-Err-seated-clause-later : goal.returns-in-Err-seated-clause-later
 returns-in-Err-seated-clause-later g c = none-fell g.D.Disk.faults c.args.store.disks c.args.store.disks refl

@@ -1,15 +1,18 @@
-use Rattle.std.proofs.Common.{◌∙◌, inl, inr, refl, sym}
-use Rattle.node_threads.proofs.Faults.{rose_after}
+use Rattle.std.proofs.Common.{◌∙◌, inl, inr, ℕ, refl, sym, subst}
+use Rattle.node_endings.proofs.Faults.{rose_after}
 use Rattle.node_run.specs.Members.{Run}
+use Rattle.node_run.specs.Rounds.{IsLeftBy}
 use Rattle.node_run.specs.declared.status.NodeStatus.TheVariants as ends
 use Rattle.node_run.proofs.Closing.{not-stored}
 use Rattle.node_run.proofs.Refused.{for-trail, none-fell, trail-else, trail-failed}
+use Rattle.node_run.proofs.Running.{stays}
 use Rattle.node_run.proofs.member.live.Goals as goal
 
 -- ---- no memory for the head or for the wires
 
 pub returns-in_default-clause-ended : goal.returns-in_default-clause-ended
-returns-in_default-clause-ended g c = λ images. inl (record { why = tt; unread = refl; unwritten = refl })
+returns-in_default-clause-ended g c = λ images.
+    inl (record { none = record { why = tt; unread = refl; unwritten = refl }; same = λ told. stays g.D.Disk.cells c.args.store.disks c.into_disks.result c.into_disks.ensures })
 
 pub returns-in_default-clause-later : goal.returns-in_default-clause-later
 returns-in_default-clause-later g c = none-fell g.D.Disk.faults c.args.store.disks c.into_disks.result c.into_disks.ensures
@@ -22,7 +25,12 @@ returns-in-Err-clause-ended g c = λ images.
     record {
       meaning = g.S.Service.meaning;
       settings = c.args.settings.now;
+      disk = g.row.D.Denot;
       told = g.D.Disk.told;
+      remembers = g.D.Disk.remembers;
+      cells = g.D.Disk.cells;
+      moment = g.D.Disk.moment;
+      left_since = g.D.Disk.left_since;
       images = images;
       left_before = g.I.Source.left c.args.input.now;
       left_after = g.I.Source.left c.args.input.now;
@@ -32,7 +40,11 @@ returns-in-Err-clause-ended g c = λ images.
       text_of = g.T.Sink.Sink.written;
       trails_after = g.T.TrailRoom.kept c.get.new.self;
     } in
-    inl (for-trail r c.trail_status.result refl refl c.in-Err.fault c.trail_status.ensures)
+    inl
+    (record {
+      none = for-trail r c.trail_status.result refl refl c.in-Err.fault c.trail_status.ensures;
+      same = λ told. stays g.D.Disk.cells c.args.store.disks c.into_disks-in-Err.result c.into_disks-in-Err.ensures;
+    })
 
 pub returns-in-Err-clause-refused : goal.returns-in-Err-clause-refused
 returns-in-Err-clause-refused g c entry e = trail-else c.in-Err.fault (ends.Store entry) (λ e. cc) (λ e. cc) (sym c.trail_status.ensures ∙ e)
@@ -56,19 +68,25 @@ returns-in-Err-clause-later g c = none-fell g.D.Disk.faults c.args.store.disks c
 
 pub returns-in-Ok-get-clause-ended : goal.returns-in-Ok-get-clause-ended
 returns-in-Ok-get-clause-ended g c = λ images.
+    let ended = rw (c.in-Ok.ensures.head, c.as_slice.ensures) at c.run_life-store.ensures.ended in
     inr
     (record {
-      store = c.run_life-store.result.store;
-      left = c.into_disks-in-Ok-get.ensures;
-      begun = c.in-Ok-get.sink;
-      empty = c.in-Ok-get.ensures.empty;
-      told = c.run_life-store.result.sink;
-      trail = rw c.as_slice-dir.ensures at c.keep.ensures.text;
-      life = rw (c.in-Ok.ensures.head, c.as_slice.ensures) at c.run_life-store.ensures.ended;
+      begun = ended.begun;
+      as_opened = ended.as_opened;
+      over = record {
+        store = c.run_life-store.result.store;
+        left = c.into_disks-in-Ok-get.ensures;
+        begun = c.in-Ok-get.sink;
+        empty = c.in-Ok-get.ensures.empty;
+        told = c.run_life-store.result.sink;
+        trail = rw c.as_slice-dir.ensures at c.keep.ensures.text;
+        life = ended.end;
+        rounds = subst (λ (restored : ℕ). IsLeftBy g.D.Disk.told g.D.Disk.remembers g.D.Disk.cells g.D.Disk.moment g.D.Disk.left_since g.S.Service.meaning c.args.core.node ended.end.lived.trail restored ended.begun c.run_life-store.result.store) c.requires.restored ended.left_by;
+      };
     })
 
 pub returns-in-Ok-get-clause-refused : goal.returns-in-Ok-get-clause-refused
-returns-in-Ok-get-clause-refused g c entry e = not-stored _ _ entry c.run_life-store.ensures.ended e
+returns-in-Ok-get-clause-refused g c entry e = not-stored _ _ entry c.run_life-store.ensures.ended.end e
 
 pub returns-in-Ok-get-clause-trail : goal.returns-in-Ok-get-clause-trail
 returns-in-Ok-get-clause-trail g c e =

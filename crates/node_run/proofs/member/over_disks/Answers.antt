@@ -1,10 +1,11 @@
 use Rattle.std.proofs.Common.{◌∙◌, inl, refl, sym, ap, arith}
 use Rattle.store_laws.specs.States.{StoreState}
 use Rattle.durable_store.specs.Disks.{contents}
-use Rattle.node_threads.proofs.Faults.{disk_rose_after, fell_after}
+use Rattle.node_endings.proofs.Faults.{disk_rose_after, fell_after}
 use Rattle.node_run.specs.Members.{Run}
 use Rattle.node_run.specs.declared.status.NodeStatus.TheVariants as ends
 use Rattle.node_run.proofs.Refused.{for-store, store-else, store-failed}
+use Rattle.node_run.proofs.Running.{over-opened}
 use Rattle.node_run.proofs.member.over_disks.Goals as goal
 
 -- ---- over the store that was opened
@@ -25,7 +26,36 @@ over_store-requires-clause-opened g c = λ _ _.
     }
 
 pub returns-in-Ok-clause-ended : goal.returns-in-Ok-clause-ended
-returns-in-Ok-clause-ended g c = c.over_store.ensures.ended (contents g.D.Disk.cells c.args.disks) c.in-Ok.ensures.kept
+returns-in-Ok-clause-ended g c =
+    let r : Run g.row.S.Denot =
+    record {
+      meaning = g.S.Service.meaning;
+      settings = c.args.settings.now;
+      disk = g.row.D.Denot;
+      told = g.D.Disk.told;
+      remembers = g.D.Disk.remembers;
+      cells = g.D.Disk.cells;
+      moment = g.D.Disk.moment;
+      left_since = g.D.Disk.left_since;
+      images = contents g.D.Disk.cells c.args.disks;
+      left_before = g.I.Source.left c.args.input.now;
+      left_after = g.I.Source.left c.over_store.new.input;
+      written_before = g.W.Sink.written c.args.output.now;
+      written_after = g.W.Sink.written c.over_store.new.output;
+      sink = g.row.T-Sink.Denot;
+      text_of = g.T.Sink.Sink.written;
+      trails_after = g.T.TrailRoom.kept c.over_store.new.trails;
+    } in
+    over-opened r c.args.disks c.in-Ok.store.disks c.over_store.result.disks c.over_store.result.status c.in-Ok.ensures.same
+    (c.over_store.ensures.ended (contents g.D.Disk.cells c.args.disks) c.in-Ok.ensures.kept
+    (record {
+      firm = c.in-Ok.ensures.firm.0;
+      generation = c.in-Ok.ensures.generation;
+      waiting = c.in-Ok.ensures.waiting.0;
+      is_open = c.in-Ok.ensures.open;
+      state = c.in-Ok.ensures.opened;
+      stands = c.in-Ok.ensures.stands;
+    }))
 
 pub returns-in-Ok-clause-disk : goal.returns-in-Ok-clause-disk
 returns-in-Ok-clause-disk g c e = disk_rose_after g.D.Disk.faults _ _ _ c.in-Ok.ensures.later (c.over_store.ensures.disk e)
@@ -41,7 +71,12 @@ returns-in-Err-clause-ended g c =
     record {
       meaning = g.S.Service.meaning;
       settings = c.args.settings.now;
+      disk = g.row.D.Denot;
       told = g.D.Disk.told;
+      remembers = g.D.Disk.remembers;
+      cells = g.D.Disk.cells;
+      moment = g.D.Disk.moment;
+      left_since = g.D.Disk.left_since;
       images = contents g.D.Disk.cells c.args.disks;
       left_before = g.I.Source.left c.args.input.now;
       left_after = g.I.Source.left c.args.input.now;
@@ -51,7 +86,7 @@ returns-in-Err-clause-ended g c =
       text_of = g.T.Sink.Sink.written;
       trails_after = g.T.TrailRoom.kept c.args.trails.now;
     } in
-    inl (for-store r c.store_status.result refl refl c.in-Err.fault c.store_status.ensures)
+    inl (record { none = for-store r c.store_status.result refl refl c.in-Err.fault c.store_status.ensures; same = c.in-Err.ensures.back })
 
 pub returns-in-Err-clause-read : goal.returns-in-Err-clause-read
 returns-in-Err-clause-read g c e = absurd (store-else c.in-Err.fault ends.ReadFault (λ e. cc) (λ e. cc) (sym c.store_status.ensures ∙ e))

@@ -5,7 +5,7 @@ use Rattle.member_opening.specs.Restorings.{KeepsCounts}
 use Rattle.node_run.specs.Members.{Run}
 use Rattle.node_run.specs.declared.status.NodeStatus.TheVariants as ends
 use Rattle.node_run.proofs.Refused.{for-restored, none-fell, restore-else}
-use Rattle.node_run.proofs.Running.{is-refused, run-over}
+use Rattle.node_run.proofs.Running.{is-refused, run-over, stays}
 use Rattle.node_run.proofs.member.over_store.Goals as goal
 
 -- ---- a life over what was restored
@@ -16,13 +16,21 @@ live-requires-clause-core g c = λ _ _. (
   subst (λ (k : ℕ). KeepsCounts k c.in-Ok.core.node) (ap (λ (p : Parts). length p.entries) c.parts_in-parts.ensures ∙ sym c.requires.restored) c.in-Ok.ensures.counts,
 )
 
+pub live-requires-clause-restored : goal.live-requires-clause-restored
+live-requires-clause-restored g c = λ _ _. c.requires.restored ∙ sym (ap (λ (p : Parts). length p.entries) c.parts_in-parts.ensures)
+
 pub returns-in-Ok-clause-ended : goal.returns-in-Ok-clause-ended
-returns-in-Ok-clause-ended g c = λ images restored.
+returns-in-Ok-clause-ended g c = λ images restored opens.
     let r : Run g.row.S.Denot =
     record {
       meaning = g.S.Service.meaning;
       settings = c.args.settings.now;
+      disk = g.row.D.Denot;
       told = g.D.Disk.told;
+      remembers = g.D.Disk.remembers;
+      cells = g.D.Disk.cells;
+      moment = g.D.Disk.moment;
+      left_since = g.D.Disk.left_since;
       images = images;
       left_before = g.I.Source.left c.args.input.now;
       left_after = g.I.Source.left c.live.new.input;
@@ -32,17 +40,22 @@ returns-in-Ok-clause-ended g c = λ images restored.
       text_of = g.T.Sink.Sink.written;
       trails_after = g.T.TrailRoom.kept c.live.new.trails;
     } in
-    run-over r c.args.kept restored c.parts_in-parts.result c.parts_in-parts.ensures c.in-Ok.core.node c.live.result.disks c.live.result.status c.in-Ok.ensures.whole c.in-Ok.ensures.node (c.live.ensures.ended images)
+    run-over r c.args.kept restored c.parts_in-parts.result c.parts_in-parts.ensures c.in-Ok.core.node c.args.store opens c.live.result.disks c.live.result.status c.in-Ok.ensures.whole c.in-Ok.ensures.node (c.live.ensures.ended images)
 
 -- ---- an entry has no meaning, or there is no memory
 
 pub returns-clause-ended : goal.returns-clause-ended
-returns-clause-ended g c = λ images restored.
+returns-clause-ended g c = λ images restored opens.
     let r : Run g.row.S.Denot =
     record {
       meaning = g.S.Service.meaning;
       settings = c.args.settings.now;
+      disk = g.row.D.Denot;
       told = g.D.Disk.told;
+      remembers = g.D.Disk.remembers;
+      cells = g.D.Disk.cells;
+      moment = g.D.Disk.moment;
+      left_since = g.D.Disk.left_since;
       images = images;
       left_before = g.I.Source.left c.args.input.now;
       left_after = g.I.Source.left c.args.input.now;
@@ -53,8 +66,12 @@ returns-clause-ended g c = λ images restored.
       trails_after = g.T.TrailRoom.kept c.args.trails.now;
     } in
     inl
-    (for-restored r c.restore_status.result refl refl c.in-Err.fault
-    (λ entry is. is-refused r c.args.kept restored c.parts_in-parts.result c.parts_in-parts.ensures entry (c.in-Err.ensures.cause entry (ap (λ (f : RestoreFault). Err f) is))) c.restore_status.ensures)
+    (record {
+      none = for-restored r c.restore_status.result refl refl c.in-Err.fault
+          (λ entry is. is-refused r c.args.kept restored c.parts_in-parts.result c.parts_in-parts.ensures entry (c.in-Err.ensures.cause entry (ap (λ (f : RestoreFault). Err f) is)))
+          c.restore_status.ensures;
+      same = λ told. stays g.D.Disk.cells c.args.store.disks c.into_disks.result c.into_disks.ensures;
+    })
 
 pub returns-clause-read : goal.returns-clause-read
 returns-clause-read g c e = absurd (restore-else c.in-Err.fault ends.ReadFault (λ n e. cc) (λ e. cc) (sym c.restore_status.ensures ∙ e))

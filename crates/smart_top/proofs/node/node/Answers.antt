@@ -22,10 +22,10 @@ pub returns-in-Ok-clause-words : goal.returns-in-Ok-clause-words
 returns-in-Ok-clause-words g c = λ is. never_words _ (sym c.status_by.ensures ∙ is)
 
 pub returns-in-Err-clause-ended : goal.returns-in-Err-clause-ended
-returns-in-Err-clause-ended g c = unread_node _ _ _ refl refl
+returns-in-Err-clause-ended g c = unread_node _ _ refl refl refl refl
 
 pub returns-in-Ok-clause-complete : goal.returns-in-Ok-clause-complete
-returns-in-Ok-clause-complete g c = λ input told sound read write trail disk. node_is_complete _ _ _ input told sound _ (λ is. read (c.run_member-status.ensures.read (read_failed _ (sym c.status_by.ensures ∙ is))))
+returns-in-Ok-clause-complete g c = λ input told sound read write trail disk. node_is_complete _ _ input told sound _ (λ is. read (c.run_member-status.ensures.read (read_failed _ (sym c.status_by.ensures ∙ is))))
     (λ is. write (c.run_member-status.ensures.write (write_failed _ (sym c.status_by.ensures ∙ is)))) (λ is. trail (c.run_member-status.ensures.trail (trail_failed _ (sym c.status_by.ensures ∙ is))))
     (λ is. disk (c.run_member-status.ensures.disk (disk_failed _ (sym c.status_by.ensures ∙ is))))
     (record { node = c.run_member-status.result; is = c.status_by.ensures; ended = rw c.in-Ok.ensures at c.run_member-status.ensures.ended })

@@ -1,0 +1,17 @@
+-- What a loop's answer says of the call that made it.
+use Rattle.std.proofs.Common.{◌≡◌, ◌≤◌, ℕ, Bool, true, false, not, List, Option, sym, subst, arith}
+use Rattle.std.proofs.lemmas.Bool.Decides.{nat_tests}
+use Rattle.check_worker.specs.Hands.{last_then}
+use Rattle.node_ends.specs.Intakes.{Reads}
+use Rattle.node_ends.specs.Outlets.{Writes}
+use Rattle.node_ends.specs.declared.intake.Intake.{Intake}
+use Rattle.node_ends.specs.declared.outlet.Outlet.{Outlet}
+
+pub reads-by : (a b : Option (List ℕ)) (cut early : Bool) (i j : Intake) → cut ≡ early → Reads a b early i j → Reads a b cut i j
+reads-by a b cut early i j is p = subst (λ (l : Bool). Reads a b l i j) (sym is) p
+
+pub writes-by : (a b : Option (List ℕ)) (up : Bool) (i j : Outlet) → up ≡ true → Writes a b false i j → Writes a b (not up) i j
+writes-by a b up i j is p = subst (λ (l : Bool). Writes a b (not l) i j) (sym is) p
+
+pub last_up : (last place : ℕ) → last ≤ last_then last place
+last_up last place = grind (arith, nat_tests)

@@ -1,0 +1,53 @@
+use Rattle.std.proofs.Common.{Ok, Err, ap, arith}
+use Rattle.log_lane.specs.Lane.{lane_heard_put}
+use Rattle.node_endings.proofs.Faults.{fell_none, fell_after, disk_failed}
+use Rattle.node_loops.proofs.Chained.{no_rounds, more_rounds}
+use Rattle.node_loops.proofs.loops.log_loop.Goals as goal
+
+pub loop-init : goal.loop-init
+loop-init g c =
+    let d = g.D.Disk in record {
+      whole = c.requires.whole;
+      sound = c.requires.sound;
+      rose = omega arith;
+      later = fell_none d.faults _;
+      rounds = no_rounds d.told d.remembers d.cells d.moment d.left_since g.E.Stops.stops g.S.Service.meaning g.P.Life.opening g.H.Home.restored _ _ _ c.requires.whole;
+    }
+
+pub loop-preserved : goal.loop-preserved
+loop-preserved g c =
+    let d = g.D.Disk in
+    let i = c.loop.invariant in
+    let e = c.in_default.ensures in record {
+      whole = e.whole;
+      sound = e.stands;
+      rose = omega (arith, i.rose, e.rose);
+      later = fell_after d.faults _ _ _ i.later e.later;
+      rounds = more_rounds d.told d.remembers d.cells d.moment d.left_since g.E.Stops.stops g.S.Service.meaning g.P.Life.opening g.H.Home.restored _ _ _ _ _ _ _ _ _ (Ok c.in_default.field-0) i.whole i.rounds e.done e.failed e.whole e.fails;
+    }
+
+pub returns-in-Err-clause-cause : goal.returns-in-Err-clause-cause
+returns-in-Err-clause-cause g c = record {
+  rose = λ is.
+      disk_failed g.D.Disk.faults _ _ _ c.in-Err.fault c.loop.invariant.later (λ e. c.in-Err.ensures.cause (ap Err e)) (λ e. c.in-Err.ensures.not_closed (ap Err e)) (c.end_of_work.ensures.failed is);
+}
+
+pub returns-in-Err-clause-later : goal.returns-in-Err-clause-later
+returns-in-Err-clause-later g c = fell_after g.D.Disk.faults _ _ _ c.loop.invariant.later c.in-Err.ensures.later
+
+pub returns-in-Err-clause-rounds : goal.returns-in-Err-clause-rounds
+returns-in-Err-clause-rounds g c =
+    let d = g.D.Disk in
+    let i = c.loop.invariant in
+    let e = c.in-Err.ensures in
+    more_rounds d.told d.remembers d.cells d.moment d.left_since g.E.Stops.stops g.S.Service.meaning g.P.Life.opening g.H.Home.restored _ _ _ (lane_heard_put c.loop.worker.lane) _ _ _ _ _ (Err c.in-Err.fault) i.whole i.rounds e.done e.failed e.whole e.fails
+
+pub returns-then-is_last_round-clause-later : goal.returns-then-is_last_round-clause-later
+returns-then-is_last_round-clause-later g c = fell_after g.D.Disk.faults _ _ _ c.loop.invariant.later c.in_default.ensures.later
+
+pub returns-then-is_last_round-clause-rounds : goal.returns-then-is_last_round-clause-rounds
+returns-then-is_last_round-clause-rounds g c =
+    let d = g.D.Disk in
+    let i = c.loop.invariant in
+    let e = c.in_default.ensures in
+    more_rounds d.told d.remembers d.cells d.moment d.left_since g.E.Stops.stops g.S.Service.meaning g.P.Life.opening g.H.Home.restored _ _ _ _ _ _ _ _ _ (Ok c.in_default.field-0) i.whole i.rounds e.done e.failed e.whole e.fails
