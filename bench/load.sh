@@ -15,7 +15,8 @@
 #   - Tags: 292 for 8 asks, at two compressions each. That makes 73 an ask.
 #   - Digests: 8 asks are ordered as a batch of 1 request and one of 7. Their texts have at most 70 and 478 bytes: 2 blocks and 8.
 #     Each of the 4 members, and the world's ledger, needs each of these digests once. That makes 6.25 an ask.
-#   - The program makes 72.6, fewer than that: a ring knows tags that it has checked. Measured by these the ratio is a tenth higher.
+#   - The program makes fewer: a ring knows tags that it has checked, and the ledger reads statements only where a script injects some.
+#     Held to what the program makes, the ratio is higher.
 # The status is 1 where one of these is past its bound.
 top=$(CDPATH= cd -- "$(dirname -- "$0")/.." && pwd) || exit 1
 n=${1:-10000}

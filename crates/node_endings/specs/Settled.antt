@@ -6,6 +6,7 @@ use Rattle.node_rules.specs.Steps.{first_leaving}
 use Rattle.trail.specs.declared.event.TrailEvent.{TrailEvent}
 use Rattle.trail.specs.declared.event.TrailEvent.TheVariants.{End}
 use Rattle.trail_rules.specs.Replays.{core_steps, replay}
+use Rattle.node_played.specs.Lives.{IsEndLast}
 
 module _ {S : Type 0} where
   -- No batch waits, all entries are firm, and no message is held that leaves.
@@ -14,8 +15,9 @@ module _ {S : Type 0} where
     pub all_firm : n.firm ≡ length n.entries
     pub none_leaves : first_leaving n.firm n.held ≡ None
 
-  -- A trail that ends with End, behind events whose replay is settled.
+  -- A trail that ends with End, behind events whose replay is settled. No event stands behind any End.
   pub record EndsSettled (m : Meaning S) (opening : Node S) (trail : List TrailEvent) : Type 0 where
     pub before : List TrailEvent
     pub is : trail ≡ before ++ End ∷ []
+    pub last : IsEndLast trail
     pub settled : IsSettled (replay (core_steps m) opening before)

@@ -1,9 +1,12 @@
 //! The delivery of the batch that waits at a seat.
-ghost use Rattle.std.specs.Prelude.{◌≡◌, ◌++◌, ◌∷◌, [], false, true, is_some};
+ghost use Rattle.std.specs.Prelude.{◌≡◌, ◌<◌, ◌++◌, ◌∷◌, [], false, true, is_some};
+ghost use Rattle.log_lane.specs.Lane.{lane_room};
+ghost use Rattle.group_links.specs.Link.{link_heard_put};
 ghost use Rattle.node_rules.specs.Kept.{core_step};
 ghost use Rattle.smart_statements.specs.declared.entry.NodeEvent.TheVariants.{Deliver};
 ghost use Rattle.trail.specs.declared.event.TrailEvent.TheVariants.{Happens};
 ghost use Rattle.trail_rules.specs.Replays.{core_steps, replay};
+ghost use Rattle.node_played.specs.Lives.{has_end};
 ghost use Rattle.node_endings.specs.Delivered.{place_fired, place_told, is_played};
 
 use node_core::node::Outcome;
@@ -60,11 +63,14 @@ pub fn deliver_next<S: Service, P: Place<S>, O: Sink, R: Wait>(
     ensures not_done { result ≡ Delivering.Not Turn.Done → ⊥ }
     ensures nothing { result ≡ Delivering.Not Turn.Nothing → (seat.new.inner.trail.items ≡ seat.old.inner.trail.items) × (is_some (replay (core_steps S.meaning) P.opening seat.old.inner.trail.items).waiting ≡ false) }
     ensures no_room { result ≡ Delivering.Not Turn.NoRoom → seat.new.inner.trail.items ≡ seat.old.inner.trail.items }
+    ensures full { result ≡ Delivering.Not Turn.NoRoom → lane_room seat.new.inner.lane < 8 }
     ensures over { result ≡ Delivering.Not Turn.Over → seat.new.over ≡ true }
     ensures whole { seat.new.over ≡ true → result ≡ Delivering.Not Turn.Over }
     ensures stays { seat.old.over ≡ true → seat.new.inner.trail.items ≡ seat.old.inner.trail.items }
+    ensures ended { has_end seat.old.inner.trail.items ≡ true → (result ≡ Delivering.Not Turn.Over) × (seat.new.inner.trail.items ≡ seat.old.inner.trail.items) }
+    ensures heard { link_heard_put seat.new.from ≡ link_heard_put seat.old.from }
 {
-    if seat.is_over() {
+    if !seat.goes_on() {
         return Delivering::Not(Turn::Over);
     }
     if !seat.inner.waits() {

@@ -6,7 +6,7 @@ ghost use Rattle.log_lane.specs.Lane.{lane_taken};
 ghost use Rattle.group_links.specs.Link.{link_put, link_taken, in_link, out_link};
 ghost use Rattle.trail.specs.Trails.{trail_text};
 ghost use Rattle.trail_rules.specs.Replays.{core_steps, replay, arrivals, needed, Released};
-ghost use Rattle.node_played.specs.Lives.{made_texts};
+ghost use Rattle.node_played.specs.Lives.{made_texts, IsEndLast};
 ghost use Rattle.node_seat.specs.Seats.{payloads, IsFirst, HasWrittenFirst};
 
 use disk_model::disk::Disk;
@@ -68,6 +68,8 @@ pub fn finish<S: Service, P: Place<S>, O: Sink, D: Disk, H: Home>(
     // The core is the replay of the trail, unless an event stopped half-way.
     ensures kept { result.stuck ≡ false → (result.core.broken ≡ false) × (result.core.node ≡ replay (core_steps S.meaning) P.opening result.trail.items) }
     ensures whole { result.over ≡ false → result.stuck ≡ false }
+    // No event stands behind the end of the trail.
+    ensures end_last { IsEndLast result.trail.items }
     // Each message that left is the next release of the replay there, and needed no more entries than are firm in the store.
     ensures released { Released (core_steps S.meaning) P.opening result.trail.items }
     ensures needs { needed (core_steps S.meaning) P.opening result.trail.items ≤ result.store.plan.firm }
@@ -75,7 +77,10 @@ pub fn finish<S: Service, P: Place<S>, O: Sink, D: Disk, H: Home>(
     ensures firm { (replay (core_steps S.meaning) P.opening result.trail.items).firm ≤ result.store.plan.firm }
     ensures put { result.lane.put ≡ length (replay (core_steps S.meaning) P.opening result.trail.items).entries - P.restored }
     ensures lane { (P.restored + result.lane.firm ≤ result.store.plan.firm) × ((result.lane.firm ≤ result.lane.taken) × (result.lane.taken ≤ result.lane.put)) }
+    // What the trail says is firm, and what its messages needed, was said to be stored by the lane.
+    ensures ends { ((replay (core_steps S.meaning) P.opening result.trail.items).firm ≤ P.restored + result.lane.firm) × (needed (core_steps S.meaning) P.opening result.trail.items ≤ P.restored + result.lane.firm) }
     // What the worker took is a front of the entries that the replay made.
+    ensures counts { result.lane.taken ≡ length (lane_taken worker.lane) }
     ensures took { IsFirst (lane_taken worker.lane) (made_texts P.restored (replay (core_steps S.meaning) P.opening result.trail.items).entries) }
     // What arrived by the trail is a front of what came in, and what was written is one of what the trail sends.
     ensures came { IsFirst (arrivals result.trail.items) (link_put arriving) }
@@ -92,6 +97,7 @@ pub fn finish<S: Service, P: Place<S>, O: Sink, D: Disk, H: Home>(
         to,
         sink,
         over,
+        cut: _,
         failed,
     } = seat.into_parts();
     let stuck = is_stuck(&inner, over);

@@ -1,6 +1,7 @@
 //! The seat of a node under its lock, as the workers and the loops see it.
-ghost use Rattle.std.specs.Prelude.{◌≡◌, ◌<◌, ◌^◌, length, Some, IfOk, IfSome};
-ghost use Rattle.node_seat.specs.Seats.{place_in};
+ghost use Rattle.std.specs.Prelude.{◌<◌, ◌^◌, length, IfOk, IfSome};
+ghost use Rattle.node_played.specs.Lives.{IsWantedOf};
+ghost use Rattle.node_loops.specs.Rounds.{IsReplicaOf};
 
 use clock_gate::gate::{Gate, Point};
 use durable_store::cell::CoreCell;
@@ -81,12 +82,14 @@ impl<'a, S: Service, P: Place<S>, O: Sink, G: Gate, R: Wait> Watch for CellOf<'a
     }
 }
 
-/// A snapshot as the bytes of a replica, with the replica's place. Error: want of memory.
-fn checked_pair<S: Service>(
+/// A snapshot that the node wanted as the bytes of a replica, with the replica's place. Error: want of
+/// memory.
+fn checked_pair<S: Service, P: Place<S>>(
     alloc: Global,
     wanted: Option<OwnSnapshot>,
 ) -> Result<Option<(u64, Bytes)>, AllocError>
-    ensures replica { IfOk result (λ found. IfSome found (λ x. place_in S.meaning x.1 ≡ Some x.0)) }
+    requires { IfSome wanted (λ own. IsWantedOf S.meaning P.opening own.place own.snapshot) }
+    ensures replica { IfOk result (λ found. IfSome found (λ x. IsReplicaOf S.meaning P.opening x.0 x.1)) }
     ensures fits { IfOk result (λ found. IfSome found (λ x. length x.1 < 2 ^ 32)) }
 {
     let Some(own) = wanted else {
@@ -97,15 +100,15 @@ fn checked_pair<S: Service>(
         snapshot,
         needs: _,
     } = own;
-    match Snapshot::<S>::checked(alloc, place.get(), snapshot)? {
+    match Snapshot::<S, P>::checked(alloc, place.get(), snapshot)? {
         Some(snapshot) => Ok(Some(snapshot.into_pair())),
         None => Ok(None),
     }
 }
 
 /// The place and the bytes of a snapshot.
-fn pair_of<S: Service>(snapshot: Option<Snapshot<S>>) -> Option<(u64, Bytes)>
-    ensures replica { IfSome result (λ x. place_in S.meaning x.1 ≡ Some x.0) }
+fn pair_of<S: Service, P: Place<S>>(snapshot: Option<Snapshot<S, P>>) -> Option<(u64, Bytes)>
+    ensures replica { IfSome result (λ x. IsReplicaOf S.meaning P.opening x.0 x.1) }
     ensures fits { IfSome result (λ x. length x.1 < 2 ^ 32) }
 {
     match snapshot {
@@ -116,13 +119,13 @@ fn pair_of<S: Service>(snapshot: Option<Snapshot<S>>) -> Option<(u64, Bytes)>
 
 impl<'a, S: Service, P: Place<S>, O: Sink, G: Gate, R: Wait> CoreCell
     for CellOf<'a, S, P, O, G, R> {
-    ghost use Rattle.std.specs.Prelude.{◌≡◌, [], None, Some};
-    ghost use Rattle.node_seat.specs.Seats.{place_in};
+    ghost use Rattle.std.specs.Prelude.{[], None};
     ghost use Rattle.node_played.specs.Lives.{IsTailOf};
+    ghost use Rattle.node_loops.specs.Rounds.{IsReplicaOf};
 
     ghost alone = { ⊥ };
 
-    ghost is_replica = { λ place bytes. place_in S.meaning bytes ≡ Some place };
+    ghost is_replica = { λ place bytes. IsReplicaOf S.meaning P.opening place bytes };
 
     ghost wants = { λ _. None };
 
@@ -135,7 +138,7 @@ impl<'a, S: Service, P: Place<S>, O: Sink, G: Gate, R: Wait> CoreCell
     /// The bytes are read once more, outside of the lock, to show that they are a replica's.
     fn wanted(&mut self, alloc: Global) -> Result<Option<(u64, Bytes)>, AllocError> {
         let wanted = self.cell.lock(self.rt).inner.wanted()?;
-        checked_pair::<S>(alloc, wanted)
+        checked_pair::<S, P>(alloc, wanted)
     }
 
     fn hand(&mut self, place: u64, snapshot: Bytes) {

@@ -193,6 +193,8 @@ pub fn log_loop<S: Service, P: Place<S>, O: Sink, D: Disk, E: Stops, H: Home, G:
     ensures rose { worker.old.store.plan.firm ≤ worker.new.store.plan.firm }
     // All that is firm and was taken is said to be stored.
     ensures raised { result ≡ LoopEnd.Done → min (worker.new.store.plan.firm - H.restored) (length (lane_taken worker.new.lane)) ≤ lane_raised worker.new.lane }
+    // A loop is done only after a round that went well.
+    ensures well { result ≡ LoopEnd.Done → worker.new.faulty ≡ false }
     ensures cause { FailsByDisk result D.faults worker.old.store.disks worker.new.store.disks }
     ensures later { NoneFell D.faults worker.old.store.disks worker.new.store.disks }
     // The worker is the one before, after some rounds.

@@ -1,5 +1,5 @@
 -- What one more event of a trail keeps of what a core keeps with its trail.
-use Rattle.std.proofs.Common.{◌≡◌, ℕ, ◌≤◌, ◌+◌, max, List, [], ◌∷◌, ◌++◌, length, map, drop, Some, refl, sym, ap, subst, ◌∙◌, arith, length-append}
+use Rattle.std.proofs.Common.{◌≡◌, ℕ, ◌≤◌, ◌+◌, max, Bool, true, false, ◌||◌, true≢false, List, [], ◌∷◌, ◌++◌, length, map, drop, Some, refl, sym, ap, subst, ◌∙◌, arith, length-append}
 use Rattle.std.proofs.lemmas.List.{drop-append-le, map-append, length-map}
 use Rattle.std.proofs.Math.Seq.{drop-append_seam}
 use Rattle.smart_statements.specs.declared.entry.NodeEvent.{NodeEvent}
@@ -19,7 +19,7 @@ use Rattle.trail.specs.declared.event.TrailEvent.{TrailEvent}
 use Rattle.trail.specs.declared.event.TrailEvent.TheVariants.{Happens, Send, End}
 use Rattle.trail_rules.specs.Replays.{core_steps, one_left, after, replay, IsRelease, MayCome, Released, need_of, needed}
 use Rattle.trail_rules.proofs.Grows.{replay-more, released-more, needed-more, need-firm}
-use Rattle.node_played.specs.Lives.{made_texts, IsRead}
+use Rattle.node_played.specs.Lives.{made_texts, IsRead, is_end, has_end, IsEndLast}
 
 -- ---- what a step keeps
 
@@ -148,6 +148,68 @@ module _ {S : Type 0} (m : Meaning S) (opening : Node S) (es new : List TrailEve
 
   pub released_end : Released (core_steps m) opening es → Released (core_steps m) opening new
   released_end was = subst (Released (core_steps m) opening) (sym longer) (released-more (core_steps m) opening es End was tt)
+
+-- ---- the beginning
+
+-- the lane of a core at its opening
+pub put_first : {S : Type 0} (m : Meaning S) (opening core : Node S) (restored count : ℕ) (es : List TrailEvent) (book : List LogEntry) (texts before now : List (List ℕ))
+    → core ≡ opening → opening.restored ≡ restored → es ≡ [] → count ≡ core.restored → book ≡ core.entries → texts ≡ map entry_text (drop count book) → before ≡ [] → now ≡ before ++ texts
+    → now ≡ made_texts restored (replay (core_steps m) opening es).entries
+put_first {S} m opening core restored count es book texts before now same begins none number is made empty put =
+    let behind : count ≡ restored = number ∙ ap (λ (n : Node S). n.restored) same ∙ begins in
+    let all : book ≡ (replay (core_steps m) opening es).entries =
+    is ∙ ap (λ (n : Node S). n.entries) same ∙ ap (λ (l : List TrailEvent). (replay (core_steps m) opening l).entries) (sym none) in
+    put ∙ ap (λ (l : List (List ℕ)). l ++ texts) empty ∙ made ∙ ap (λ (n : ℕ). map entry_text (drop n book)) behind
+    ∙ ap (λ (b : List LogEntry). map entry_text (drop restored b)) all
+
+-- ---- that an End is last
+
+neither : (a b : Bool) → (a || b) ≡ false → (a ≡ false) × (b ≡ false)
+neither true b none = absurd (true≢false none)
+neither false b none = (refl, none)
+
+none-more : (es : List TrailEvent) (e : TrailEvent) → has_end es ≡ false → is_end e ≡ false → has_end (es ++ e ∷ []) ≡ false
+none-more [] e none own = ap (λ (b : Bool). b || false) own
+none-more (x ∷ es) e none own =
+    let both = neither (is_end x) (has_end es) none in
+    ap (λ (b : Bool). b || has_end (es ++ e ∷ [])) both.0 ∙ none-more es e both.1 own
+
+end-more : (es : List TrailEvent) → has_end (es ++ End ∷ []) ≡ true
+end-more [] = refl
+end-more (x ∷ es) = ap (λ (b : Bool). is_end x || b) (end-more es) ∙ either (is_end x)
+  where
+    either : (b : Bool) → (b || true) ≡ true
+    either true = refl
+    either false = refl
+
+last-more : (es : List TrailEvent) (e : TrailEvent) → has_end es ≡ false → (before behind : List TrailEvent) → es ++ e ∷ [] ≡ before ++ End ∷ behind → behind ≡ []
+last-more [] e none [] behind is = sym (ap (drop 1) is)
+last-more [] e none (y ∷ before) behind is =
+    absurd (omega (arith, ap length is, length-append before (End ∷ behind)))
+last-more (x ∷ es) e none [] behind is =
+    let both = neither (is_end x) (has_end es) none in
+    absurd (true≢false (sym (ap first_ends is) ∙ both.0))
+  where
+    first_ends : List TrailEvent → Bool
+    first_ends [] = false
+    first_ends (f ∷ fs) = is_end f
+last-more (x ∷ es) e none (y ∷ before) behind is = last-more es e (neither (is_end x) (has_end es) none).1 before behind (ap (drop 1) is)
+
+-- no End stands in an empty trail
+pub last_none : (es : List TrailEvent) → es ≡ [] → IsEndLast es
+last_none es none = λ before behind is. absurd (omega (arith, ap length (sym none ∙ is), length-append before (End ∷ behind)))
+
+module _ (es new : List TrailEvent) (e : TrailEvent) (longer : new ≡ es ++ e ∷ []) (none : has_end es ≡ false) where
+  -- no End stands in a trail with one more event that is none
+  pub goes_by : is_end e ≡ false → has_end new ≡ false
+  goes_by own = ap has_end longer ∙ none-more es e none own
+
+  -- an event behind no End leaves an End last
+  pub last_by : IsEndLast new
+  last_by = λ before behind is. last-more es e none before behind (sym longer ∙ is)
+
+pub ends_by : (es new : List TrailEvent) → new ≡ es ++ End ∷ [] → true ≡ has_end new
+ends_by es new longer = sym (ap has_end longer ∙ end-more es)
 
 -- what a core releases is the next release of the replay that it is
 pub releases : {S : Type 0} (old n : Node S) (a : Addressed) (h : Held) → old ≡ n → Some h ≡ first_leaving old.firm old.held → h.to ≡ a.to → h.message ≡ a.message → MayCome n (Send a)

@@ -4,11 +4,12 @@ ghost use Rattle.log_lane.specs.Lane.{lane_put, lane_read, in_lane};
 ghost use Rattle.node_rules.specs.Nodes.{Node};
 ghost use Rattle.trail.specs.Events.{event_text, event_content};
 ghost use Rattle.trail_rules.specs.Replays.{core_steps, replay, needed, Released};
-ghost use Rattle.node_played.specs.Lives.{made_texts, released_prop};
+ghost use Rattle.node_played.specs.Lives.{made_texts, released_prop, has_end, IsEndLast, end_last_prop};
 
 use crate::life::Life;
 use crate::texts::{put_all, texts_behind};
 use log_lane::inward::LaneIn;
+use log_lane::stored::Stored;
 use log_worker::text::EntryText;
 use node_core::node::{NodeCore, Outcome};
 use node_rules::node::{BookTail, Held, OwnSnapshot};
@@ -95,12 +96,14 @@ fn short_text(alloc: Global, event: &TrailEvent) -> Result<Bytes, AllocError>
 
 /// A core that is the replay of a trail, and the end of the lane that has its entries. If want of
 /// memory stopped an event half-way, it is stuck: the core may then be another, and no event is played.
+/// Once the trail has ended, nothing is added to it.
 pub struct Played<S: Service, P: Life<S>> {
     pub(crate) alloc: Global,
     pub(crate) core: NodeCore<S>,
     pub(crate) trail: Vec<TrailEvent>,
     pub(crate) lane: LaneIn<EntryText>,
     pub(crate) stuck: bool,
+    pub(crate) ended: bool,
     of: PhantomData<P>,
     pub ghost kept: { stuck ≡ false → (core.broken ≡ false) × (core.node ≡ replay (core_steps S.meaning) P.opening trail.items) },
     pub ghost restored: { (replay (core_steps S.meaning) P.opening trail.items).restored ≡ P.restored },
@@ -110,6 +113,8 @@ pub struct Played<S: Service, P: Life<S>> {
     pub ghost needs: { needed (core_steps S.meaning) P.opening trail.items ≤ P.restored + lane_read lane },
     pub ghost released: { Released (core_steps S.meaning) P.opening trail.items } by { released_prop (core_steps S.meaning) P.opening trail.items },
     pub ghost named: { in_lane lane ≡ P.lane },
+    pub ghost ends: { ended ≡ has_end trail.items },
+    pub ghost end_last: { IsEndLast trail.items } by { end_last_prop trail.items },
 }
 
 /// Let go by one call, so that no function that lets one go carries the whole of it.
@@ -121,15 +126,16 @@ impl<S: Service, P: Life<S>> Drop for Played<S, P> {
             trail: _,
             lane: _,
             stuck: _,
+            ended: _,
             of: _,
         } = self;
     }
 }
 
 impl<S: Service, P: Life<S>> Played<S, P> {
-    ghost use Rattle.std.specs.Prelude.{◌≡◌, ◌≤◌, ◌<◌, ◌^◌, ◌+◌, ◌-◌, ◌++◌, ◌∷◌, [], false, true, length, None, is_some, option_map, IfOk, IfSome, OnOk, OnErr, IsErrOf, IsTrue, MatchOption};
+    ghost use Rattle.std.specs.Prelude.{◌≡◌, ◌↔◌, ◌≤◌, ◌<◌, ◌^◌, ◌+◌, ◌-◌, ◌++◌, ◌∷◌, [], false, true, length, None, is_some, option_map, IfOk, IfSome, OnOk, OnErr, IsErrOf, IsTrue, MatchOption};
     ghost use Rattle.vote_book.specs.Books.{number_or};
-    ghost use Rattle.log_lane.specs.Lane.{lane_put, lane_read, lane_room, in_lane};
+    ghost use Rattle.log_lane.specs.Lane.{lane_put, lane_read, lane_heard, lane_room, in_lane, stored_lane, told_stored};
     ghost use Rattle.node_rules.specs.Kept.{core_step};
     ghost use Rattle.node_rules.specs.Marks.{wanted};
     ghost use Rattle.node_rules.specs.Steps.{first_leaving};
@@ -139,7 +145,7 @@ impl<S: Service, P: Life<S>> Played<S, P> {
     ghost use Rattle.trail.specs.declared.event.TrailEvent.TheVariants.{Happens, Send, End};
     ghost use Rattle.trail_rules.specs.Replays.{core_steps, replay, needed, Released};
     ghost use Rattle.store_plan.specs.Fit.{AreEntries};
-    ghost use Rattle.node_played.specs.Lives.{made_texts, IsRead, IsTailOf};
+    ghost use Rattle.node_played.specs.Lives.{made_texts, IsRead, IsTailOf, IsWantedOf, has_end, IsEndLast};
 
     /// A core at its opening, with an unused lane that has room for its first entry. Error: want of
     /// memory.
@@ -166,30 +172,49 @@ impl<S: Service, P: Life<S>> Played<S, P> {
             trail: Vec::new(alloc),
             lane,
             stuck: false,
+            ended: false,
             of: PhantomData,
         })
     }
 
     /// Whether more may happen to the core.
     pub fn is_whole(&self) -> bool
-        ensures { IsTrue result → self.now.stuck ≡ false }
+        ensures { IsTrue result ↔ (self.now.stuck ≡ false) }
     {
         !self.stuck
     }
 
+    /// Whether the trail has ended, so that nothing is added to it.
+    pub fn has_ended(&self) -> bool
+        ensures { result ≡ has_end self.now.trail.items }
+    {
+        self.ended
+    }
+
     /// Whether the lane has room for the entries of an event.
     pub fn has_room(&self) -> bool
-        ensures { IsTrue result → 8 ≤ lane_room self.now.lane }
+        ensures room { IsTrue result → 8 ≤ lane_room self.now.lane }
+        ensures no_room { result ≡ false → lane_room self.now.lane < 8 }
     {
         self.lane.room() >= 8
     }
 
-    /// Reads how many entries of this life are firm.
+    /// Reads how many entries of this life are firm. They are no fewer than were heard to be stored.
     pub fn look(&mut self) -> u64
         ensures read { result ≡ lane_read self.new.lane }
+        ensures heard { lane_heard self.old.lane ≤ result }
         ensures same { (self.new.trail ≡ self.old.trail) × ((self.new.core ≡ self.old.core) × (self.new.stuck ≡ self.old.stuck)) }
     {
         self.lane.firm()
+    }
+
+    /// Hears how many entries were stored.
+    pub fn hear(&mut self, stored: Stored<EntryText>)
+        requires { stored_lane stored ≡ P.lane }
+        ensures heard { lane_heard self.new.lane ≡ told_stored stored }
+        ensures same { (self.new.trail ≡ self.old.trail) × ((self.new.core ≡ self.old.core) × (self.new.stuck ≡ self.old.stuck)) }
+    {
+        self.lane.hear(stored);
     }
 
     /// How many entries are firm by what the core was told, those restored among them.
@@ -201,7 +226,7 @@ impl<S: Service, P: Life<S>> Played<S, P> {
 
     /// Whether the core knows that all its entries are firm.
     pub fn is_firm(&self) -> bool
-        ensures { IsTrue result → self.now.stuck ≡ false → (replay (core_steps S.meaning) P.opening self.now.trail.items).firm ≡ length (replay (core_steps S.meaning) P.opening self.now.trail.items).entries }
+        ensures { self.now.stuck ≡ false → (IsTrue result ↔ ((replay (core_steps S.meaning) P.opening self.now.trail.items).firm ≡ length (replay (core_steps S.meaning) P.opening self.now.trail.items).entries)) }
     {
         self.core.firm() == self.core.made()
     }
@@ -224,7 +249,8 @@ impl<S: Service, P: Life<S>> Played<S, P> {
     /// A copy of the last snapshot for which the core wants a switch, with its place. `None` if and only
     /// if it wants none. Error: want of memory, also where the core is stuck.
     pub fn wanted(&self) -> Result<Option<OwnSnapshot>, AllocError>
-        ensures { IfOk result (λ own. own ≡ wanted (replay (core_steps S.meaning) P.opening self.now.trail.items)) }
+        ensures of_trail { IfOk result (λ own. own ≡ wanted (replay (core_steps S.meaning) P.opening self.now.trail.items)) }
+        ensures of_life { IfOk result (λ own. IfSome own (λ s. IsWantedOf S.meaning P.opening s.place s.snapshot)) }
     {
         if self.stuck {
             return Err(AllocError);
@@ -258,6 +284,7 @@ impl<S: Service, P: Life<S>> Played<S, P> {
     /// also for an event of 2^32 bytes or more.
     pub fn event<R: Wait>(&mut self, rt: &R, event: NodeEvent) -> Result<Happened, SeatEnd>
         requires whole { self.old.stuck ≡ false }
+        requires going { has_end self.old.trail.items ≡ false }
         requires room { 8 ≤ lane_room self.old.lane }
         requires read { IsRead (lane_read self.old.lane) event }
         ensures ok { OnOk result ((self.new.trail.items ≡ self.old.trail.items ++ Happens event ∷ []) × (self.new.stuck ≡ false)) }
@@ -265,6 +292,7 @@ impl<S: Service, P: Life<S>> Played<S, P> {
         ensures text { IfOk result (λ h. (h.text ≡ event_text (Happens event)) × (length h.text < 2 ^ 32)) }
         ensures err { OnErr result ((self.new.trail.items ≡ self.old.trail.items) × (self.new.stuck ≡ true)) }
         ensures memory { IsErrOf result SeatEnd.TrailFault → ⊥ }
+        ensures read { lane_read self.new.lane ≡ lane_read self.old.lane }
     {
         let made = self.core.made();
         if self.trail.reserve(1).is_err() {
@@ -292,6 +320,7 @@ impl<S: Service, P: Life<S>> Played<S, P> {
     /// payload of its frame. Error: want of memory, also for an event of 2^32 bytes or more.
     pub fn send(&mut self) -> Result<Option<Sent>, SeatEnd>
         requires whole { self.old.stuck ≡ false }
+        requires going { has_end self.old.trail.items ≡ false }
         ensures sent { IfOk result (λ o. MatchOption o
             ((first_leaving (replay (core_steps S.meaning) P.opening self.old.trail.items).firm (replay (core_steps S.meaning) P.opening self.old.trail.items).held ≡ None) × (self.new.trail.items ≡ self.old.trail.items))
             (λ sent. (a : Addressed) × ((sent.text ≡ event_text (Send a)) × ((sent.payload ≡ addressed_text a) × (self.new.trail.items ≡ self.old.trail.items ++ Send a ∷ []))))) }
@@ -320,6 +349,7 @@ impl<S: Service, P: Life<S>> Played<S, P> {
 
     /// Notes that the trail is whole. Gives the bytes of its last event. Error: want of memory.
     pub fn end(&mut self) -> Result<Bytes, SeatEnd>
+        requires going { has_end self.old.trail.items ≡ false }
         ensures ok { OnOk result (self.new.trail.items ≡ self.old.trail.items ++ End ∷ []) }
         ensures text { IfOk result (λ text. (text ≡ event_text End) × (length text < 2 ^ 32)) }
         ensures err { OnErr result (self.new.trail.items ≡ self.old.trail.items) }
@@ -334,6 +364,7 @@ impl<S: Service, P: Life<S>> Played<S, P> {
             return Err(SeatEnd::NoMemory);
         };
         note(&mut self.trail, event);
+        self.ended = true;
         Ok(text)
     }
 
@@ -345,6 +376,7 @@ impl<S: Service, P: Life<S>> Played<S, P> {
         ensures firm { (replay (core_steps S.meaning) P.opening result.1.items).firm ≤ P.restored + lane_read result.2 }
         ensures needs { needed (core_steps S.meaning) P.opening result.1.items ≤ P.restored + lane_read result.2 }
         ensures released { Released (core_steps S.meaning) P.opening result.1.items }
+        ensures end_last { IsEndLast result.1.items }
     {
         let Played {
             alloc: _,
@@ -352,6 +384,7 @@ impl<S: Service, P: Life<S>> Played<S, P> {
             trail,
             lane,
             stuck: _,
+            ended: _,
             of: _,
         } = self;
         (core, trail, lane)

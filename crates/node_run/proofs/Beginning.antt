@@ -29,25 +29,32 @@ as-it-is told store = record { disks = refl; firm = refl; generation = refl; wai
 
 module _ {S D : Type 0} (told remembers : Type 0) (cells : D → Cells) (moment : D → ℕ) (left_since : D → ℕ → List ℕ → Type 0) where
   -- no round was made
-  no-rounds : (m : Meaning S) (opening : Node S) (trail : List TrailEvent) (restored : ℕ) (store : Store D) → IsLeftBy told remembers cells moment left_since m opening trail restored store store
-  no-rounds m opening trail restored store = record { taken = []; faulty = false; front = refl; rounds = record { count = 0; made = (refl, (refl, refl)) } }
+  no-rounds : (m : Meaning S) (opening : Node S) (trail : List TrailEvent) (restored : ℕ) (status : NodeStatus) (store : Store D) → (status ≡ ends.Ok → ⊥)
+      → IsLeftBy told remembers cells moment left_since m opening trail restored status store store
+  no-rounds m opening trail restored status store failed = record {
+    taken = [];
+    faulty = false;
+    front = refl;
+    whole = λ well. absurd (failed well);
+    rounds = record { count = 0; made = (refl, (refl, refl)) };
+  }
 
   module _ (life : Life S) (restored : ℕ) (store : Store D) where
-    over-store : (status : NodeStatus) → LifeEnd life status → LifeFrom told remembers cells moment left_since life restored store store status
-    over-store status end = record {
+    over-store : (status : NodeStatus) → (status ≡ ends.Ok → ⊥) → LifeEnd life status → LifeFrom told remembers cells moment left_since life restored store store status
+    over-store status failed end = record {
       end = end;
       begun = store;
       as_opened = as-it-is told store;
-      left_by = no-rounds life.meaning life.opening end.lived.trail restored store;
+      left_by = no-rounds life.meaning life.opening end.lived.trail restored status store failed;
     }
 
     module _ (unread : life.left_after ≡ life.left_before) (unwritten : life.written_after ≡ life.written_before) (firm : life.opening.firm ≤ life.firm) where
       -- the head of its trail was not written whole
       pub headless : (fault : Fault) → (count : ℕ) × Appends life.told_before life.told_after (take count (trail_text life.head life.entries []))
           → LifeFrom told remembers cells moment left_since life restored store store (trail_status fault)
-      headless Failed front = over-store ends.TrailFault (record { lived = idle life unread unwritten firm (front-told life.told_before life.told_after (trail_text life.head life.entries []) front.0 front.1); ends = tt })
-      headless NoMemory front = over-store ends.NoMemory (record { lived = idle life unread unwritten firm (front-told life.told_before life.told_after (trail_text life.head life.entries []) front.0 front.1); ends = tt })
+      headless Failed front = over-store ends.TrailFault (λ well. cc) (record { lived = idle life unread unwritten firm (front-told life.told_before life.told_after (trail_text life.head life.entries []) front.0 front.1); ends = tt })
+      headless NoMemory front = over-store ends.NoMemory (λ well. cc) (record { lived = idle life unread unwritten firm (front-told life.told_before life.told_after (trail_text life.head life.entries []) front.0 front.1); ends = tt })
 
       -- there was no memory for its seat
       pub seatless : Appends life.told_before life.told_after (trail_text life.head life.entries []) → LifeFrom told remembers cells moment left_since life restored store store ends.NoMemory
-      seatless wrote = over-store ends.NoMemory (record { lived = idle life unread unwritten firm (wrote-all life.told_before life.told_after (trail_text life.head life.entries []) wrote); ends = tt })
+      seatless wrote = over-store ends.NoMemory (λ well. cc) (record { lived = idle life unread unwritten firm (wrote-all life.told_before life.told_after (trail_text life.head life.entries []) wrote); ends = tt })

@@ -66,6 +66,14 @@ disk-choice false false true d e = refl
 disk-choice false false false true e = cc
 disk-choice false false false false e = cc
 
+ok-choice : (a b c d : Bool) → choice a b c d ≡ statuses.Ok → d ≡ true
+unfolding choice
+ok-choice true b c d e = cc
+ok-choice false true c d e = cc
+ok-choice false false true d e = cc
+ok-choice false false false true e = refl
+ok-choice false false false false e = cc
+
 no-read-choice : (a b c d : Bool) → choice a b c d ≡ statuses.ReadFault → ⊥
 unfolding choice
 no-read-choice true b c d e = cc
@@ -96,6 +104,13 @@ behind-disk (loops.Form n) behind e = cc
 behind-disk loops.Failed behind e = cc
 behind-disk loops.NoMemory behind e = e
 
+behind-ok : (r : LoopEnd) (behind : NodeStatus) → status_by r behind ≡ statuses.Ok → behind ≡ statuses.Ok
+behind-ok loops.Done behind e = e
+behind-ok loops.Over behind e = e
+behind-ok (loops.Form n) behind e = cc
+behind-ok loops.Failed behind e = cc
+behind-ok loops.NoMemory behind e = e
+
 behind-read : (r : LoopEnd) (behind : NodeStatus) → (behind ≡ statuses.ReadFault → ⊥) → status_by r behind ≡ statuses.ReadFault → r ≡ loops.Failed
 behind-read loops.Done behind not-read e = absurd (not-read e)
 behind-read loops.Over behind not-read e = absurd (not-read e)
@@ -107,6 +122,11 @@ module _ (ends : Ends) (failed settled : Bool) where
   pub read-cause : status_of ends failed settled ≡ statuses.ReadFault → ends.received ≡ loops.Failed
   unfolding choice
   read-cause = behind-read ends.received (status_behind ends failed settled) (no-read-choice (has_failed ends.sent) failed (has_failed ends.logged) (settled && is_whole ends))
+
+  pub ok-cause : status_of ends failed settled ≡ statuses.Ok → (settled ≡ true) × (is_whole ends ≡ true)
+  unfolding choice
+  ok-cause e =
+      both-true settled (is_whole ends) (ok-choice (has_failed ends.sent) failed (has_failed ends.logged) (settled && is_whole ends) (behind-ok ends.received (status_behind ends failed settled) e))
 
   pub write-cause : status_of ends failed settled ≡ statuses.WriteFault → ends.sent ≡ loops.Failed
   unfolding choice

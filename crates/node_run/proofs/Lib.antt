@@ -4,3 +4,4 @@ pub mod Closing
 pub mod Living
 pub mod Refused
 pub mod Running
+pub mod Taking

@@ -7,7 +7,9 @@ use Rattle.frame_stream.specs.Frames.{framed, too_long}
 use Rattle.group_links.specs.Link.{link_put, link_taken}
 use Rattle.trail.specs.Trails.{trail_text}
 use Rattle.trail.specs.declared.event.TrailEvent.{TrailEvent}
+use Rattle.trail.specs.declared.event.TrailEvent.TheVariants.{End}
 use Rattle.trail_rules.specs.Replays.{core_steps, replay, arrivals, needed, Released}
+use Rattle.node_played.specs.Lives.{IsEndLast}
 use Rattle.node_seat.specs.Seats.{payloads, IsFirst, HasWrittenFirst}
 use Rattle.node_ends.specs.Intakes.{filled, HasTakenIn, Reads, IsDone, IsCutOff as is-cut-off}
 use Rattle.node_ends.specs.Outlets.{Writes}
@@ -35,7 +37,8 @@ nothing-waits waiting none = ap option_to_list none
 module _ {S : Type 0} (life : Life S) (i0 i1 : Intake) (o0 o1 : Outlet) (trail : List TrailEvent) (cut all : Bool) (fresh : HasTakenIn [] i0) (reads : Reads life.left_before life.left_after cut i0 i1)
     (came : IsFirst (arrivals trail) (link_put i1.link)) (none : link_taken o0.link ≡ []) (writes : Writes life.written_before life.written_after all o0 o1) (left : IsFirst (link_taken o1.link) (payloads trail))
     (released : Released (core_steps life.meaning) life.opening trail) (needs : needed (core_steps life.meaning) life.opening trail ≤ life.firm)
-    (firm : (replay (core_steps life.meaning) life.opening trail).firm ≤ life.firm) (text : HasWrittenFirst life.told_before life.told_after (trail_text life.head life.entries trail)) where
+    (firm : (replay (core_steps life.meaning) life.opening trail).firm ≤ life.firm) (text : HasWrittenFirst life.told_before life.told_after (trail_text life.head life.entries trail))
+    (end-last : IsEndLast trail) where
   taken : HasTakenIn reads.more i1
   taken = reads.taken [] fresh
 
@@ -45,6 +48,7 @@ module _ {S : Type 0} (life : Life S) (i0 i1 : Intake) (o0 o1 : Outlet) (trail :
   pub lived : Lived life
   lived = record {
     trail = trail;
+    end_last = end-last;
     read = reads.more;
     lost = reads.lost;
     frames = taken.given ++ i1.frames.ready;
@@ -106,11 +110,16 @@ consumes-none : (a : Option (List ℕ)) → Consumes a a []
 consumes-none None = tt
 consumes-none (Some xs) = refl
 
+none-ended : (trail before behind : List TrailEvent) → trail ≡ [] → trail ≡ before ++ End ∷ behind → behind ≡ []
+none-ended trail [] behind none is = absurd (cc)
+none-ended trail (e ∷ before) behind none is = absurd (cc)
+
 -- a life that did nothing
 pub idle : {S : Type 0} (life : Life S) → life.left_after ≡ life.left_before → life.written_after ≡ life.written_before → life.opening.firm ≤ life.firm
     → HasWrittenFirst life.told_before life.told_after (trail_text life.head life.entries []) → Lived life
 idle life unread unwritten firm text = record {
   trail = [];
+  end_last = λ before behind is. none-ended [] before behind refl is;
   read = [];
   lost = [];
   frames = [];

@@ -9,7 +9,7 @@ use Rattle.store_form.specs.declared.ends.LogFault.{LogFault}
 use Rattle.store_form.specs.declared.ends.LogFault.TheVariants as logs
 use Rattle.member_opening.specs.declared.fault.RestoreFault.{RestoreFault}
 use Rattle.member_opening.specs.declared.fault.RestoreFault.TheVariants as faults
-use Rattle.node_run.specs.Members.{HasNotLived, IsRefused, Run}
+use Rattle.node_run.specs.Members.{HasNotLived, IsRefused, IsStill, Run}
 use Rattle.node_run.specs.Statuses.{restore_status, room_status, store_status, trail_status}
 use Rattle.node_run.specs.declared.status.NodeStatus.{NodeStatus}
 use Rattle.node_run.specs.declared.status.NodeStatus.TheVariants as ends
@@ -59,22 +59,22 @@ module _ {D : Type 0} (counts : D → ℕ) where
 
 -- ---- a run without a life
 
-module _ {S : Type 0} (r : Run S) (status : NodeStatus) (unread : r.left_after ≡ r.left_before) (unwritten : r.written_after ≡ r.written_before) where
+module _ {S : Type 0} (r : Run S) (status : NodeStatus) (unread : r.left_after ≡ r.left_before) (unwritten : r.written_after ≡ r.written_before) (trails : IsStill r.trails) where
   by-trail : (fault : Fault) → HasNotLived r (trail_status fault)
-  by-trail Failed = record { why = tt; unread = unread; unwritten = unwritten }
-  by-trail NoMemory = record { why = tt; unread = unread; unwritten = unwritten }
+  by-trail Failed = record { why = tt; unread = unread; unwritten = unwritten; trails = trails }
+  by-trail NoMemory = record { why = tt; unread = unread; unwritten = unwritten; trails = trails }
 
   by-room : (fault : Fault) → HasNotLived r (room_status fault)
-  by-room Failed = record { why = tt; unread = unread; unwritten = unwritten }
-  by-room NoMemory = record { why = tt; unread = unread; unwritten = unwritten }
+  by-room Failed = record { why = tt; unread = unread; unwritten = unwritten; trails = trails }
+  by-room NoMemory = record { why = tt; unread = unread; unwritten = unwritten; trails = trails }
 
   by-store : (fault : LogFault) → HasNotLived r (store_status fault)
-  by-store (logs.Disk closed) = record { why = tt; unread = unread; unwritten = unwritten }
-  by-store logs.NoMemory = record { why = tt; unread = unread; unwritten = unwritten }
+  by-store (logs.Disk closed) = record { why = tt; unread = unread; unwritten = unwritten; trails = trails }
+  by-store logs.NoMemory = record { why = tt; unread = unread; unwritten = unwritten; trails = trails }
 
   by-restored : (fault : RestoreFault) → ((entry : ℕ) → fault ≡ faults.Entry entry → IsRefused r entry) → HasNotLived r (restore_status fault)
-  by-restored (faults.Entry entry) why = record { why = why entry refl; unread = unread; unwritten = unwritten }
-  by-restored faults.NoMemory why = record { why = tt; unread = unread; unwritten = unwritten }
+  by-restored (faults.Entry entry) why = record { why = why entry refl; unread = unread; unwritten = unwritten; trails = trails }
+  by-restored faults.NoMemory why = record { why = tt; unread = unread; unwritten = unwritten; trails = trails }
 
   pub for-trail : (fault : Fault) → status ≡ trail_status fault → HasNotLived r status
   for-trail fault is = subst (HasNotLived r) (sym is) (by-trail fault)

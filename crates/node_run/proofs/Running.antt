@@ -3,7 +3,7 @@ use Rattle.std.proofs.Common.{◌≡◌, ◌∙◌, inl, inr, ℕ, List, Option,
 use Rattle.faults.specs.declared.Fault.{Fault}
 use Rattle.faults.specs.declared.Fault.TheVariants.{Failed, NoMemory}
 use Rattle.disk_model.specs.Cells.{Cells}
-use Rattle.disk_model.specs.Rooms.{Address}
+use Rattle.disk_model.specs.Rooms.{Address, KeepsOthers, address}
 use Rattle.store_laws.specs.Restored.{Images, restores}
 use Rattle.store_laws.specs.States.{Devices, store_opened}
 use Rattle.store_laws.specs.declared.job.Kept.{Kept}
@@ -19,7 +19,7 @@ use Rattle.member_opening.specs.Headings.{head_by}
 use Rattle.member_opening.specs.Restorings.{node_by, parts_in, store_fault}
 use Rattle.member_opening.specs.declared.settings.Settings.{Settings}
 use Rattle.trail.specs.declared.opening.TrailOpening.{TrailOpening}
-use Rattle.node_run.specs.Members.{HasLeft, HasLived, HasNotLived, HasStayed, IsRefused, KeepsRoom, LifeOver, MayLackDevices, RefusedBy, Room, Run, RunEnd, RunOver, StoreOver}
+use Rattle.node_run.specs.Members.{HasLeft, HasLived, HasNotLived, HasStayed, IsRefused, KeepsRoom, KeepsTrails, LifeOver, MayLackDevices, RefusedBy, Room, Run, RunEnd, RunOver, StoreOver}
 use Rattle.node_run.specs.Opened.{IsAsOpened, OpensWith}
 use Rattle.node_run.specs.Statuses.{room_status}
 use Rattle.node_run.specs.declared.status.NodeStatus.{NodeStatus}
@@ -68,6 +68,21 @@ keeps-room s before mid after taken_before taken_mid taken_after first second fi
   beside = λ other a b c d. second other a b c d ∙ first other a b c d;
   beside_taken = λ other a b c d. second-taken other a b c d ∙ first-taken other a b c d;
   back = ((back.0.0 ∙ sym free.0.0, back.0.1 ∙ sym free.0.1), (back.1.0 ∙ sym free.1.0, back.1.1 ∙ sym free.1.1));
+}
+
+-- ---- the room of trails
+
+-- a sink was had, and is back
+pub keeps-trails : (s : Settings) (before mid after : Address → Option (List ℕ)) (taken_before taken_mid taken_after : Address → Option ℕ)
+    → KeepsOthers (address s.dir s.member 0) before mid → KeepsOthers (address s.dir s.member 0) mid after
+    → KeepsOthers (address s.dir s.member 0) taken_before taken_mid → KeepsOthers (address s.dir s.member 0) taken_mid taken_after
+    → taken_before (address s.dir s.member 0) ≡ None → taken_after (address s.dir s.member 0) ≡ None
+    → KeepsTrails s (record { before = before; after = after; taken_before = taken_before; taken_after = taken_after })
+keeps-trails s before mid after taken_before taken_mid taken_after first second first-taken second-taken free back = record {
+  others = λ other else. second other else ∙ first other else;
+  others_taken = λ other else. second-taken other else ∙ first-taken other else;
+  free = free;
+  back = back;
 }
 
 -- ---- a store that is as the one that was opened
@@ -135,7 +150,7 @@ module _ {S : Type 0} (r : Run S) (images : Images) (same : r.told → r.images 
   why-still ends.NoMemory why = why
 
   not-still : (status : NodeStatus) → HasNotLived r status → HasNotLived (record r { images = images }) status
-  not-still status p = record { why = why-still status p.why; unread = p.unread; unwritten = p.unwritten }
+  not-still status p = record { why = why-still status p.why; unread = p.unread; unwritten = p.unwritten; trails = p.trails }
 
   over-still : (opening : Node S) (head : TrailOpening) (entries : List (List ℕ)) (opened : Store r.disk) (disks : Disks r.disk) (status : NodeStatus) → LifeOver r opening head entries opened disks status
       → LifeOver (record r { images = images }) opening head entries opened disks status
@@ -146,6 +161,7 @@ module _ {S : Type 0} (r : Run S) (images : Images) (same : r.told → r.images 
     empty = p.empty;
     told = p.told;
     trail = p.trail;
+    keeps = p.keeps;
     life = p.life;
     rounds = p.rounds;
   }
@@ -172,7 +188,7 @@ module _ {S : Type 0} (r : Run S) (images : Images) (same : r.told → r.images 
 
   -- ---- the devices are in their room again
 
-  module _ (room : Room) (keeps : KeepsRoom r.settings room) (taken : Disks r.disk)
+  module _ (room : Room Cells) (keeps : KeepsRoom r.settings room) (taken : Disks r.disk)
       (held : r.told → contents r.cells taken ≡ images)
       (within : r.told → AreWithin (cells_of r.cells taken) (devices_at room.before r.settings.dir r.settings.member))
       (left : Disks r.disk) (back : r.told → devices_at room.after r.settings.dir r.settings.member ≡ cells_of r.cells left) (status : NodeStatus) where
@@ -193,7 +209,7 @@ may-lack : (fault : Fault) → MayLackDevices (room_status fault)
 may-lack Failed = tt
 may-lack NoMemory = tt
 
-pub not-had : {S : Type 0} (r : Run S) (room : Room) (status : NodeStatus) (fault : Fault) → status ≡ room_status fault → KeepsRoom r.settings room
+pub not-had : {S : Type 0} (r : Run S) (room : Room Cells) (status : NodeStatus) (fault : Fault) → status ≡ room_status fault → KeepsRoom r.settings room
     → (r.told → AreWithin (devices_at room.after r.settings.dir r.settings.member) (devices_at room.before r.settings.dir r.settings.member)) → HasNotLived r status → RunEnd r room status
 not-had r room status fault is keeps within none = record {
   keeps = keeps;

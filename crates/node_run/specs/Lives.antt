@@ -9,6 +9,7 @@ use Rattle.trail.specs.Trails.{trail_text}
 use Rattle.trail.specs.declared.event.TrailEvent.{TrailEvent}
 use Rattle.trail.specs.declared.opening.TrailOpening.{TrailOpening}
 use Rattle.trail_rules.specs.Replays.{core_steps, replay, arrivals, needed, Released}
+use Rattle.node_played.specs.Lives.{IsEndLast}
 use Rattle.node_seat.specs.Seats.{payloads, IsFirst, HasWrittenFirst}
 use Rattle.node_ends.specs.Intakes.{filled}
 use Rattle.node_endings.specs.Settled.{EndsSettled}
@@ -37,9 +38,10 @@ pub record Life (S : Type 0) : Type 0 where
 
 module _ {S : Type 0} where
   -- What holds of a life however it ended. The arrivals of its trail are the first frames read that are not empty, and the messages written are the
-  -- first that it sends. What was sent needed no more entries than are firm.
+  -- first that it sends. What was sent needed no more entries than are firm. Behind its end nothing stands.
   pub record Lived (life : Life S) : Type 0 where
     pub trail : List TrailEvent
+    pub end_last : IsEndLast trail
     -- the input that was read, and the frames that it is cut into
     pub read : List ℕ
     pub lost : List ℕ

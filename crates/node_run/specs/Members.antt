@@ -1,7 +1,7 @@
 -- The run of a member: what its store restored, the life that it lived over it, and what is left in the room of its devices.
 use Rattle.std.specs.Prelude.{◌≡◌, ◌⊎◌, ℕ, List, length, Option, Some, None, IfSome}
 use Rattle.disk_model.specs.Cells.{Cells}
-use Rattle.disk_model.specs.Rooms.{Address, address}
+use Rattle.disk_model.specs.Rooms.{Address, KeepsOthers, address}
 use Rattle.smart_service.specs.Services.{Meaning}
 use Rattle.store_laws.specs.Restored.{Images, restores}
 use Rattle.store_laws.specs.declared.job.Kept.{Kept}
@@ -20,6 +20,18 @@ use Rattle.node_run.specs.Opened.{IsAsOpened, OpensWith}
 use Rattle.node_run.specs.Rounds.{IsLeftBy}
 use Rattle.node_run.specs.declared.status.NodeStatus.{NodeStatus}
 use Rattle.node_run.specs.declared.status.NodeStatus.TheVariants as ends
+
+-- A room before a run and after it: what it keeps at each address, and, of what is taken, how often it had failed when it was taken.
+pub record Room (Content : Type 0) : Type 0 where
+  pub before : Address → Content
+  pub after : Address → Content
+  pub taken_before : Address → Option ℕ
+  pub taken_after : Address → Option ℕ
+
+-- a room that is as it was
+pub record IsStill {Content : Type 0} (room : Room Content) : Type 0 where
+  pub kept : room.after ≡ room.before
+  pub taken : room.taken_after ≡ room.taken_before
 
 -- What a run of a member was given, and what was left, written and kept before it and after it.
 pub record Run (S : Type 0) : Type 1 where
@@ -43,19 +55,19 @@ pub record Run (S : Type 0) : Type 1 where
   -- the sinks of trails, and what each tells of its text
   pub sink : Type 0
   pub text_of : sink → Option (List ℕ)
-  -- the texts of trails that are kept after it
-  pub trails_after : Address → Option (List ℕ)
+  -- the room of trails, and the text of each that it keeps, where it tells that
+  pub trails : Room (Option (List ℕ))
 
--- A room of disks before a run and after it: what each disk holds, and, of one that is taken, how often it had failed when it was taken.
-pub record Room : Type 0 where
-  pub before : Address → Cells
-  pub after : Address → Cells
-  pub taken_before : Address → Option ℕ
-  pub taken_after : Address → Option ℕ
+-- A room keeps all trails but the member's. Its sink was free, and is free again.
+pub record KeepsTrails (s : Settings) (trails : Room (Option (List ℕ))) : Type 0 where
+  pub others : KeepsOthers (address s.dir s.member 0) trails.before trails.after
+  pub others_taken : KeepsOthers (address s.dir s.member 0) trails.taken_before trails.taken_after
+  pub free : trails.taken_before (address s.dir s.member 0) ≡ None
+  pub back : trails.taken_after (address s.dir s.member 0) ≡ None
 
 module _ {S : Type 0} where
   -- A life from this opening was lived over a store that was opened, and these devices are left of it: what some rounds made of them and of the count
-  -- of firm entries, over the entries that the life made. Its trail is kept in its room.
+  -- of firm entries, over the entries that the life made. Its trail is kept in its room, and all other trails there are as they were.
   pub record LifeOver (r : Run S) (opening : Node S) (head : TrailOpening) (entries : List (List ℕ)) (opened : Store r.disk) (disks : Disks r.disk) (status : NodeStatus) : Type 0 where
     pub store : Store r.disk
     pub left : disks ≡ store.disks
@@ -63,7 +75,8 @@ module _ {S : Type 0} where
     pub begun : r.sink
     pub empty : IsEmpty (r.text_of begun)
     pub told : r.sink
-    pub trail : IfSome (r.text_of told) (λ text. r.trails_after (address r.settings.dir r.settings.member 0) ≡ Some text)
+    pub trail : IfSome (r.text_of told) (λ text. r.trails.after (address r.settings.dir r.settings.member 0) ≡ Some text)
+    pub keeps : KeepsTrails r.settings r.trails
     pub life : LifeEnd (record {
       meaning = r.meaning;
       opening = opening;
@@ -77,7 +90,7 @@ module _ {S : Type 0} where
       told_after = r.text_of told;
       firm = store.plan.firm;
     }) status
-    pub rounds : IsLeftBy r.told r.remembers r.cells r.moment r.left_since r.meaning opening life.lived.trail (length entries) opened store
+    pub rounds : IsLeftBy r.told r.remembers r.cells r.moment r.left_since r.meaning opening life.lived.trail (length entries) status opened store
 
   -- The same, over a store that is as the one that was opened.
   pub record LifeBehind (r : Run S) (opening : Node S) (head : TrailOpening) (entries : List (List ℕ)) (opened : Store r.disk) (disks : Disks r.disk) (status : NodeStatus) : Type 0 where
@@ -111,11 +124,12 @@ module _ {S : Type 0} where
   RefusedBy r ends.DiskFault = Unit {0}
   RefusedBy r ends.NoMemory = Unit {0}
 
-  -- No life was lived. Nothing was read or written.
+  -- No life was lived. Nothing was read or written, and the room of trails is as it was: the trail of the life before is kept.
   pub record HasNotLived (r : Run S) (status : NodeStatus) : Type 0 where
     pub why : RefusedBy r status
     pub unread : r.left_after ≡ r.left_before
     pub unwritten : r.written_after ≡ r.written_before
+    pub trails : IsStill r.trails
 
   -- No life was lived, and devices that tell what they hold do so of what they held.
   pub record HasStayed (r : Run S) (old new : Disks r.disk) (status : NodeStatus) : Type 0 where
@@ -142,7 +156,7 @@ MayLackDevices ends.DiskFault = Unit {0}
 MayLackDevices ends.NoMemory = Unit {0}
 
 -- All other disks of a room are as they were. Of the member's devices as many are taken as before.
-pub record KeepsRoom (s : Settings) (room : Room) : Type 0 where
+pub record KeepsRoom (s : Settings) (room : Room Cells) : Type 0 where
   pub beside : KeepsBeside s.dir s.member room.before room.after
   pub beside_taken : KeepsBeside s.dir s.member room.taken_before room.taken_after
   pub back : AreAsBefore room.taken_before room.taken_after s.dir s.member
@@ -150,18 +164,18 @@ pub record KeepsRoom (s : Settings) (room : Room) : Type 0 where
 module _ {S : Type 0} where
   -- A run without a life. The member's devices hold what they held, if disks tell it, unless one of them could not be had. A crash leaves nothing of
   -- them but what it might have left before.
-  pub record HasLeft (r : Run S) (room : Room) (status : NodeStatus) : Type 0 where
+  pub record HasLeft (r : Run S) (room : Room Cells) (status : NodeStatus) : Type 0 where
     pub none : HasNotLived r status
     pub same : r.told → (images_at room.after r.settings.dir r.settings.member ≡ r.images) ⊎ MayLackDevices status
     pub within : r.told → AreWithin (devices_at room.after r.settings.dir r.settings.member) (devices_at room.before r.settings.dir r.settings.member)
 
   -- A life of a run whose devices are in their room again.
-  pub record HasKept (r : Run S) (room : Room) (status : NodeStatus) : Type 0 where
+  pub record HasKept (r : Run S) (room : Room Cells) (status : NodeStatus) : Type 0 where
     pub disks : Disks r.disk
     pub devices : r.told → devices_at room.after r.settings.dir r.settings.member ≡ cells_of r.cells disks
     pub lived : HasLived r disks status
 
   -- How the run of a member ended: before a life, or by one. It keeps the rest of the room.
-  pub record RunEnd (r : Run S) (room : Room) (status : NodeStatus) : Type 0 where
+  pub record RunEnd (r : Run S) (room : Room Cells) (status : NodeStatus) : Type 0 where
     pub keeps : KeepsRoom r.settings room
     pub ended : HasLeft r room status ⊎ HasKept r room status

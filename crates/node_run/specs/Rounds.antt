@@ -1,5 +1,5 @@
 -- The rounds of a life's log, from the store with which it began to the one that is left.
-use Rattle.std.specs.Prelude.{ℕ, Bool, List, []}
+use Rattle.std.specs.Prelude.{◌≡◌, ℕ, Bool, false, List, []}
 use Rattle.disk_model.specs.Cells.{Cells}
 use Rattle.smart_service.specs.Services.{Meaning}
 use Rattle.store_laws.specs.Stops.{is_installed}
@@ -13,14 +13,17 @@ use Rattle.node_loops.specs.Rounds.{RoundsOf}
 use Rattle.node_run.specs.Lives.{Life, LifeEnd}
 use Rattle.node_run.specs.Opened.{IsAsOpened}
 use Rattle.node_run.specs.declared.status.NodeStatus.{NodeStatus}
+use Rattle.node_run.specs.declared.status.NodeStatus.TheVariants as ends
 
 module _ {S D : Type 0} (told remembers : Type 0) (cells : D → Cells) (moment : D → ℕ) (left_since : D → ℕ → List ℕ → Type 0) where
-  -- A store as a number of rounds left it. They took a front of the entries that the replay of the trail made behind so many restored ones.
-  pub record IsLeftBy (m : Meaning S) (opening : Node S) (trail : List TrailEvent) (restored : ℕ) (begun now : Store D) : Type 0 where
+  -- A store as a number of rounds left it, over a life that ended with this status. They took a front of the entries that the replay of the trail made
+  -- behind so many restored ones. If the life ended well, they took all of them, and each round went well.
+  pub record IsLeftBy (m : Meaning S) (opening : Node S) (trail : List TrailEvent) (restored : ℕ) (status : NodeStatus) (begun now : Store D) : Type 0 where
     -- the entries that were taken, and whether the last round failed
     pub taken : List (List ℕ)
     pub faulty : Bool
     pub front : IsFirst taken (made_texts restored (replay (core_steps m) opening trail).entries)
+    pub whole : status ≡ ends.Ok → (faulty ≡ false) × (taken ≡ made_texts restored (replay (core_steps m) opening trail).entries)
     pub rounds : RoundsOf told remembers cells moment left_since is_installed m opening restored faulty [] taken begun now
 
   -- A life that ended with this status, over a store that was just opened.
@@ -28,4 +31,4 @@ module _ {S D : Type 0} (told remembers : Type 0) (cells : D → Cells) (moment 
     pub end : LifeEnd life status
     pub begun : Store D
     pub as_opened : IsAsOpened told opened begun
-    pub left_by : IsLeftBy life.meaning life.opening end.lived.trail restored begun now
+    pub left_by : IsLeftBy life.meaning life.opening end.lived.trail restored status begun now

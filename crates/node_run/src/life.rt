@@ -149,7 +149,7 @@ fn run_seated<
     requires taken { lane_taken worker.lane ≡ [] }
     requires faulty { worker.faulty ≡ false }
     requires sound { D.told → Stands (state_of D.cells worker.store) }
-    ensures ended { (end : LifeEnd (record { meaning = S.meaning; opening = P.opening; head = P.head; entries = P.entries; left_before = I.left input.old; left_after = I.left input.new; written_before = W.written output.old; written_after = W.written output.new; told_before = P.begun; told_after = O.written result.sink; firm = result.store.plan.firm }) result.status) × IsLeftBy D.told D.remembers D.cells D.moment D.left_since S.meaning P.opening end.lived.trail P.restored worker.store result.store }
+    ensures ended { (end : LifeEnd (record { meaning = S.meaning; opening = P.opening; head = P.head; entries = P.entries; left_before = I.left input.old; left_after = I.left input.new; written_before = W.written output.old; written_after = W.written output.new; told_before = P.begun; told_after = O.written result.sink; firm = result.store.plan.firm }) result.status) × IsLeftBy D.told D.remembers D.cells D.moment D.left_since S.meaning P.opening end.lived.trail P.restored result.status worker.store result.store }
     ensures read { result.status ≡ NodeStatus.ReadFault → Rose (I.faults input.old) (I.faults input.new) }
     ensures write { result.status ≡ NodeStatus.WriteFault → Rose (W.faults output.old) (W.faults output.new) }
     ensures trail { result.status ≡ NodeStatus.TrailFault → Rose P.failures (O.faults result.sink) }

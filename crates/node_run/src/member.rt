@@ -91,7 +91,7 @@ where
     requires core { (core.broken ≡ false) × KeepsCounts store.plan.restored core.node }
     requires restored { store.plan.restored ≡ length parts.now.entries }
     requires opened { IsOpened D.told D.cells store }
-    ensures ended { (images : Images) → StoreOver (record { meaning = S.meaning; settings = settings.now; disk = D; told = D.told; remembers = D.remembers; cells = D.cells; moment = D.moment; left_since = D.left_since; images = images; left_before = I.left input.old; left_after = I.left input.new; written_before = W.written output.old; written_after = W.written output.new; sink = T.Sink; text_of = T.Sink.written; trails_after = T.kept trails.new }) core.node (head_by S.meaning settings.now parts.now) parts.now.entries store result.disks result.status }
+    ensures ended { (images : Images) → StoreOver (record { meaning = S.meaning; settings = settings.now; disk = D; told = D.told; remembers = D.remembers; cells = D.cells; moment = D.moment; left_since = D.left_since; images = images; left_before = I.left input.old; left_after = I.left input.new; written_before = W.written output.old; written_after = W.written output.new; sink = T.Sink; text_of = T.Sink.written; trails = record { before = T.kept trails.old; after = T.kept trails.new; taken_before = T.taken trails.old; taken_after = T.taken trails.new } }) core.node (head_by S.meaning settings.now parts.now) parts.now.entries store result.disks result.status }
     ensures refused { (entry : ℕ) → result.status ≡ NodeStatus.Store entry → ⊥ }
     ensures read { result.status ≡ NodeStatus.ReadFault → Rose (I.faults input.old) (I.faults input.new) }
     ensures write { result.status ≡ NodeStatus.WriteFault → Rose (W.faults output.old) (W.faults output.new) }
@@ -167,7 +167,7 @@ where
     T::Sink: Send,
     requires restored { store.plan.restored ≡ length kept.entries }
     requires opened { IsOpened D.told D.cells store }
-    ensures ended { (images : Images) → (D.told → kept ≡ restores images) → OpensWith D.told D.cells images kept store → RunOver (record { meaning = S.meaning; settings = settings.now; disk = D; told = D.told; remembers = D.remembers; cells = D.cells; moment = D.moment; left_since = D.left_since; images = images; left_before = I.left input.old; left_after = I.left input.new; written_before = W.written output.old; written_after = W.written output.new; sink = T.Sink; text_of = T.Sink.written; trails_after = T.kept trails.new }) store.disks result.disks result.status }
+    ensures ended { (images : Images) → (D.told → kept ≡ restores images) → OpensWith D.told D.cells images kept store → RunOver (record { meaning = S.meaning; settings = settings.now; disk = D; told = D.told; remembers = D.remembers; cells = D.cells; moment = D.moment; left_since = D.left_since; images = images; left_before = I.left input.old; left_after = I.left input.new; written_before = W.written output.old; written_after = W.written output.new; sink = T.Sink; text_of = T.Sink.written; trails = record { before = T.kept trails.old; after = T.kept trails.new; taken_before = T.taken trails.old; taken_after = T.taken trails.new } }) store.disks result.disks result.status }
     ensures read { result.status ≡ NodeStatus.ReadFault → Rose (I.faults input.old) (I.faults input.new) }
     ensures write { result.status ≡ NodeStatus.WriteFault → Rose (W.faults output.old) (W.faults output.new) }
     ensures trail { result.status ≡ NodeStatus.TrailFault → Rose (T.faults trails.old) (T.faults trails.new) }
@@ -210,7 +210,7 @@ fn over_disks<
 where
     T::Sink: Send,
     requires { D.told → AreSettled D.cells disks }
-    ensures ended { RunOver (record { meaning = S.meaning; settings = settings.now; disk = D; told = D.told; remembers = D.remembers; cells = D.cells; moment = D.moment; left_since = D.left_since; images = contents D.cells disks; left_before = I.left input.old; left_after = I.left input.new; written_before = W.written output.old; written_after = W.written output.new; sink = T.Sink; text_of = T.Sink.written; trails_after = T.kept trails.new }) disks result.disks result.status }
+    ensures ended { RunOver (record { meaning = S.meaning; settings = settings.now; disk = D; told = D.told; remembers = D.remembers; cells = D.cells; moment = D.moment; left_since = D.left_since; images = contents D.cells disks; left_before = I.left input.old; left_after = I.left input.new; written_before = W.written output.old; written_after = W.written output.new; sink = T.Sink; text_of = T.Sink.written; trails = record { before = T.kept trails.old; after = T.kept trails.new; taken_before = T.taken trails.old; taken_after = T.taken trails.new } }) disks result.disks result.status }
     ensures read { result.status ≡ NodeStatus.ReadFault → Rose (I.faults input.old) (I.faults input.new) }
     ensures write { result.status ≡ NodeStatus.WriteFault → Rose (W.faults output.old) (W.faults output.new) }
     ensures trail { result.status ≡ NodeStatus.TrailFault → Rose (T.faults trails.old) (T.faults trails.new) }
@@ -262,7 +262,7 @@ pub fn run_member<
 where
     M::Disk: Send,
     T::Sink: Send,
-    ensures ended { RunEnd (record { meaning = S.meaning; settings = settings.now; disk = M.Disk; told = M.Disk.told; remembers = M.Disk.remembers; cells = M.Disk.cells; moment = M.Disk.moment; left_since = M.Disk.left_since; images = images_at (M.cells room.old) settings.now.dir settings.now.member; left_before = I.left input.old; left_after = I.left input.new; written_before = W.written output.old; written_after = W.written output.new; sink = T.Sink; text_of = T.Sink.written; trails_after = T.kept trails.new }) (record { before = M.cells room.old; after = M.cells room.new; taken_before = M.taken room.old; taken_after = M.taken room.new }) result }
+    ensures ended { RunEnd (record { meaning = S.meaning; settings = settings.now; disk = M.Disk; told = M.Disk.told; remembers = M.Disk.remembers; cells = M.Disk.cells; moment = M.Disk.moment; left_since = M.Disk.left_since; images = images_at (M.cells room.old) settings.now.dir settings.now.member; left_before = I.left input.old; left_after = I.left input.new; written_before = W.written output.old; written_after = W.written output.new; sink = T.Sink; text_of = T.Sink.written; trails = record { before = T.kept trails.old; after = T.kept trails.new; taken_before = T.taken trails.old; taken_after = T.taken trails.new } }) (record { before = M.cells room.old; after = M.cells room.new; taken_before = M.taken room.old; taken_after = M.taken room.new }) result }
     ensures read { result ≡ NodeStatus.ReadFault → Rose (I.faults input.old) (I.faults input.new) }
     ensures write { result ≡ NodeStatus.WriteFault → Rose (W.faults output.old) (W.faults output.new) }
     ensures trail { result ≡ NodeStatus.TrailFault → Rose (T.faults trails.old) (T.faults trails.new) }

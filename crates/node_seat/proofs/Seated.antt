@@ -62,6 +62,10 @@ module _ (es new : List TrailEvent) (e : TrailEvent) (longer : new ≡ es ++ e �
     text-first count was wrote =
         subst (HasWrittenFirst begun now) (sym told) (wrote-front begun old now (trail_text head entries es) (part text) count was wrote)
 
+-- what was heard to be put was taken, and so it arrived
+pub heard-came : (heard taken came : List (List ℕ)) → IsFirst heard taken → taken ≡ came → IsFirst heard came
+heard-came heard taken came first is = subst (IsFirst heard) is first
+
 -- counts of failures
 pub later-still : (first before now : ℕ) → first ≤ before → before ≤ now → first ≤ now
 later-still first before now early late = omega (arith, early, late)

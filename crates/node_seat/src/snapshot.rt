@@ -1,7 +1,9 @@
 //! A snapshot that is handed over between workers.
 ghost use Rattle.std.specs.Prelude.{◌≡◌, ◌<◌, ◌^◌, length, Some, IfOk, IfSome};
+ghost use Rattle.node_played.specs.Lives.{IsWantedOf};
 ghost use Rattle.node_seat.specs.Seats.{place_in};
 
+use node_played::life::Life;
 use smart_base::sequence::Bytes;
 use smart_service::fault::RestoreError;
 use smart_service::service::Service;
@@ -12,22 +14,26 @@ use std::marker::PhantomData;
 /// The greatest length of a snapshot in bytes.
 const SNAPSHOT_BYTES: usize = 0xffff_ffff;
 
-/// The bytes of a replica, with the replica's place.
-pub struct Snapshot<S: Service> {
+/// The bytes of a replica, with the replica's place. The node of this life wanted its store to switch to
+/// them.
+pub struct Snapshot<S: Service, P: Life<S>> {
     pub place: u64,
     pub bytes: Bytes,
-    of: PhantomData<S>,
+    service: PhantomData<S>,
+    life: PhantomData<P>,
     pub ghost fits: { length bytes < 2 ^ 32 },
     pub ghost whole: { place_in S.meaning bytes ≡ Some place },
+    pub ghost wanted: { IsWantedOf S.meaning P.opening place bytes },
 }
 
 /// Let go by one call, so that no function that lets one go carries the whole of it.
-impl<S: Service> Drop for Snapshot<S> {
+impl<S: Service, P: Life<S>> Drop for Snapshot<S, P> {
     fn drop(self) {
         let Snapshot {
             place: _,
             bytes: _,
-            of: _,
+            service: _,
+            life: _,
         } = self;
     }
 }
@@ -43,31 +49,37 @@ fn place_in<S: Service>(alloc: Global, bytes: &[u8]) -> Result<Option<u64>, Allo
     }
 }
 
-impl<S: Service> Snapshot<S> {
-    ghost use Rattle.std.specs.Prelude.{◌≡◌, ◌<◌, ◌^◌, length, Some, IfOk, IfSome};
+impl<S: Service, P: Life<S>> Snapshot<S, P> {
+    ghost use Rattle.std.specs.Prelude.{◌≡◌, ◌≤◌, ◌<◌, ◌^◌, length, Some, None, IfOk, IfSome};
+    ghost use Rattle.node_played.specs.Lives.{IsWantedOf};
     ghost use Rattle.node_seat.specs.Seats.{place_in};
 
-    /// Bytes as those of a replica of this place. It takes no memory.
-    pub fn of(place: u64, bytes: Bytes) -> Snapshot<S>
+    /// Bytes as those of a replica of this place, to which the node wanted its store to switch. It takes no
+    /// memory.
+    pub fn of(place: u64, bytes: Bytes) -> Snapshot<S, P>
         requires fits { length bytes < 2 ^ 32 }
         requires whole { place_in S.meaning bytes ≡ Some place }
+        requires wanted { IsWantedOf S.meaning P.opening place bytes }
         ensures { (result.place ≡ place) × (result.bytes ≡ bytes) }
     {
         Snapshot {
             place,
             bytes,
-            of: PhantomData,
+            service: PhantomData,
+            life: PhantomData,
         }
     }
 
-    /// Bytes as those of a replica of this place. `None`: they are none, or have 2^32 bytes or more. Error:
-    /// want of memory.
+    /// Bytes that the node wanted as those of a replica of this place. `None` only where they are none, or
+    /// have 2^32 bytes or more. Error: want of memory.
     pub fn checked(
         alloc: Global,
         place: u64,
         bytes: Bytes,
-    ) -> Result<Option<Snapshot<S>>, AllocError>
-        ensures { IfOk result (λ found. IfSome found (λ s. (s.place ≡ place) × (s.bytes ≡ bytes))) }
+    ) -> Result<Option<Snapshot<S, P>>, AllocError>
+        requires { IsWantedOf S.meaning P.opening place bytes }
+        ensures same { IfOk result (λ found. IfSome found (λ s. (s.place ≡ place) × (s.bytes ≡ bytes))) }
+        ensures none { IfOk result (λ found. found ≡ None → place_in S.meaning bytes ≡ Some place → 2 ^ 32 ≤ length bytes) }
     {
         if bytes.len() > SNAPSHOT_BYTES {
             return Ok(None);
@@ -89,11 +101,13 @@ impl<S: Service> Snapshot<S> {
         ensures same { (result.0 ≡ self.place) × (result.1 ≡ self.bytes) }
         ensures fits { length result.1 < 2 ^ 32 }
         ensures whole { place_in S.meaning result.1 ≡ Some result.0 }
+        ensures wanted { IsWantedOf S.meaning P.opening result.0 result.1 }
     {
         let Snapshot {
             place,
             bytes,
-            of: _,
+            service: _,
+            life: _,
         } = self;
         (place, bytes)
     }

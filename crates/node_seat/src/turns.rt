@@ -15,29 +15,38 @@ pub enum Turn {
     Nothing,
     /// The lane has no room for the entries of an event.
     NoRoom,
-    /// Nothing more happens to the node.
+    /// Nothing more happens to the node, as its trail has ended, the seat was over, or the turn failed.
     Over,
 }
 
 impl<S: Service, P: Place<S>, O: Sink> Seat<S, P, O> {
-    ghost use Rattle.std.specs.Prelude.{◌≡◌, ◌≤◌, ◌-◌, ◌++◌, ◌∷◌, [], List, ℕ, false, true, None, is_some};
-    ghost use Rattle.log_lane.specs.Lane.{lane_read};
+    ghost use Rattle.std.specs.Prelude.{◌≡◌, ◌≤◌, ◌<◌, ◌-◌, ◌++◌, ◌∷◌, [], List, ℕ, false, true, None, is_some};
+    ghost use Rattle.log_lane.specs.Lane.{lane_read, lane_heard, lane_room};
+    ghost use Rattle.group_links.specs.Link.{link_heard_put};
     ghost use Rattle.node_rules.specs.Steps.{first_leaving};
     ghost use Rattle.smart_statements.specs.declared.entry.NodeEvent.TheVariants.{Arrive, Tick, Deliver, Firm};
     ghost use Rattle.trail.specs.declared.event.Addressed.{Addressed};
     ghost use Rattle.trail.specs.declared.event.TrailEvent.TheVariants.{Happens, Send};
-    ghost use Rattle.trail_rules.specs.Replays.{core_steps, replay};
+    ghost use Rattle.trail_rules.specs.Replays.{core_steps, replay, arrivals};
+    ghost use Rattle.node_played.specs.Lives.{has_end};
+    ghost use Rattle.node_seat.specs.Seats.{IsFirst};
 
-    /// Tells the core how many entries are firm, if the lane tells more than it knows.
+    /// Tells the core how many entries are firm by what the lane tells, if those are more than it knows.
     pub fn catch_up<R: Wait>(&mut self, rt: &R) -> Turn
-        ensures done { result ≡ Turn.Done → (count : ℕ) × (self.new.inner.trail.items ≡ self.old.inner.trail.items ++ Happens (Firm count) ∷ []) }
+        ensures done { result ≡ Turn.Done → self.new.inner.trail.items ≡ self.old.inner.trail.items ++ Happens (Firm (lane_read self.new.inner.lane)) ∷ [] }
+        ensures more { result ≡ Turn.Done → (replay (core_steps S.meaning) P.opening self.old.inner.trail.items).firm - P.restored < lane_read self.new.inner.lane }
         ensures nothing { result ≡ Turn.Nothing → (self.new.inner.trail.items ≡ self.old.inner.trail.items) × (lane_read self.new.inner.lane ≤ (replay (core_steps S.meaning) P.opening self.old.inner.trail.items).firm - P.restored) }
+        ensures stored { result ≡ Turn.Nothing → lane_heard self.old.inner.lane ≤ (replay (core_steps S.meaning) P.opening self.old.inner.trail.items).firm - P.restored }
         ensures no_room { result ≡ Turn.NoRoom → self.new.inner.trail.items ≡ self.old.inner.trail.items }
+        ensures full { result ≡ Turn.NoRoom → lane_room self.new.inner.lane < 8 }
         ensures over { result ≡ Turn.Over → self.new.over ≡ true }
         ensures whole { self.new.over ≡ true → result ≡ Turn.Over }
         ensures stays { self.old.over ≡ true → self.new.inner.trail.items ≡ self.old.inner.trail.items }
+        ensures ended { has_end self.old.inner.trail.items ≡ true → (result ≡ Turn.Over) × (self.new.inner.trail.items ≡ self.old.inner.trail.items) }
+        ensures heard { link_heard_put self.new.from ≡ link_heard_put self.old.from }
+        ensures handed { self.new.handed ≡ self.old.handed }
     {
-        if self.over {
+        if !self.goes_on() {
             return Turn::Over;
         }
         let read = self.look();
@@ -58,11 +67,15 @@ impl<S: Service, P: Place<S>, O: Sink> Seat<S, P, O> {
         ensures done { result ≡ Turn.Done → self.new.inner.trail.items ≡ self.old.inner.trail.items ++ Happens Tick ∷ [] }
         ensures nothing { result ≡ Turn.Nothing → ⊥ }
         ensures no_room { result ≡ Turn.NoRoom → self.new.inner.trail.items ≡ self.old.inner.trail.items }
+        ensures full { result ≡ Turn.NoRoom → lane_room self.new.inner.lane < 8 }
         ensures over { result ≡ Turn.Over → self.new.over ≡ true }
         ensures whole { self.new.over ≡ true → result ≡ Turn.Over }
         ensures stays { self.old.over ≡ true → self.new.inner.trail.items ≡ self.old.inner.trail.items }
+        ensures ended { has_end self.old.inner.trail.items ≡ true → (result ≡ Turn.Over) × (self.new.inner.trail.items ≡ self.old.inner.trail.items) }
+        ensures heard { link_heard_put self.new.from ≡ link_heard_put self.old.from }
+        ensures handed { self.new.handed ≡ self.old.handed }
     {
-        if self.over {
+        if !self.goes_on() {
             return Turn::Over;
         }
         self.look();
@@ -80,11 +93,15 @@ impl<S: Service, P: Place<S>, O: Sink> Seat<S, P, O> {
         ensures done { result ≡ Turn.Done → self.new.inner.trail.items ≡ self.old.inner.trail.items ++ Happens Deliver ∷ [] }
         ensures nothing { result ≡ Turn.Nothing → (self.new.inner.trail.items ≡ self.old.inner.trail.items) × (is_some (replay (core_steps S.meaning) P.opening self.old.inner.trail.items).waiting ≡ false) }
         ensures no_room { result ≡ Turn.NoRoom → self.new.inner.trail.items ≡ self.old.inner.trail.items }
+        ensures full { result ≡ Turn.NoRoom → lane_room self.new.inner.lane < 8 }
         ensures over { result ≡ Turn.Over → self.new.over ≡ true }
         ensures whole { self.new.over ≡ true → result ≡ Turn.Over }
         ensures stays { self.old.over ≡ true → self.new.inner.trail.items ≡ self.old.inner.trail.items }
+        ensures ended { has_end self.old.inner.trail.items ≡ true → (result ≡ Turn.Over) × (self.new.inner.trail.items ≡ self.old.inner.trail.items) }
+        ensures heard { link_heard_put self.new.from ≡ link_heard_put self.old.from }
+        ensures handed { self.new.handed ≡ self.old.handed }
     {
-        if self.over {
+        if !self.goes_on() {
             return Turn::Over;
         }
         if !self.inner.waits() {
@@ -100,16 +117,22 @@ impl<S: Service, P: Place<S>, O: Sink> Seat<S, P, O> {
         }
     }
 
-    /// Plays the next message that arrived, if one did.
+    /// Plays the next message that arrived, if one did. `Nothing` only where the link had none at one moment
+    /// of the call, so that all has arrived that was heard to be put.
     pub fn take<R: Wait>(&mut self, rt: &R) -> Turn
         ensures done { result ≡ Turn.Done → (bytes : List ℕ) × (self.new.inner.trail.items ≡ self.old.inner.trail.items ++ Happens (Arrive bytes) ∷ []) }
         ensures nothing { result ≡ Turn.Nothing → self.new.inner.trail.items ≡ self.old.inner.trail.items }
+        ensures came { result ≡ Turn.Nothing → IsFirst (link_heard_put self.old.from) (arrivals self.old.inner.trail.items) }
         ensures no_room { result ≡ Turn.NoRoom → self.new.inner.trail.items ≡ self.old.inner.trail.items }
+        ensures full { result ≡ Turn.NoRoom → lane_room self.new.inner.lane < 8 }
         ensures over { result ≡ Turn.Over → self.new.over ≡ true }
         ensures whole { self.new.over ≡ true → result ≡ Turn.Over }
         ensures stays { self.old.over ≡ true → self.new.inner.trail.items ≡ self.old.inner.trail.items }
+        ensures ended { has_end self.old.inner.trail.items ≡ true → (result ≡ Turn.Over) × (self.new.inner.trail.items ≡ self.old.inner.trail.items) }
+        ensures heard { link_heard_put self.new.from ≡ link_heard_put self.old.from }
+        ensures handed { self.new.handed ≡ self.old.handed }
     {
-        if self.over {
+        if !self.goes_on() {
             return Turn::Over;
         }
         self.look();
@@ -131,8 +154,11 @@ impl<S: Service, P: Place<S>, O: Sink> Seat<S, P, O> {
         ensures over { result ≡ Turn.Over → self.new.over ≡ true }
         ensures whole { self.new.over ≡ true → result ≡ Turn.Over }
         ensures stays { self.old.over ≡ true → self.new.inner.trail.items ≡ self.old.inner.trail.items }
+        ensures ended { has_end self.old.inner.trail.items ≡ true → (result ≡ Turn.Over) × (self.new.inner.trail.items ≡ self.old.inner.trail.items) }
+        ensures heard { link_heard_put self.new.from ≡ link_heard_put self.old.from }
+        ensures handed { self.new.handed ≡ self.old.handed }
     {
-        if self.over {
+        if !self.goes_on() {
             return Turn::Over;
         }
         match self.send(rt) {

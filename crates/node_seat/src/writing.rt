@@ -26,7 +26,7 @@ pub(crate) fn write_part<O: Sink>(
     ensures err { OnErr result ((count : ℕ) × Appends (O.written sink.old) (O.written sink.new) (take count (part text.now))) }
     ensures later { O.faults sink.old ≤ O.faults sink.new }
     ensures failed { failed.new ≡ true → (failed.old ≡ true) ⊎ Rose (O.faults sink.old) (O.faults sink.new) }
-    ensures cause { IsErrOf result SeatEnd.TrailFault → failed.new ≡ true }
+    ensures cause { IsErrOf result SeatEnd.TrailFault → (failed.new ≡ true) × Rose (O.faults sink.old) (O.faults sink.new) }
 {
     match write_frame(sink, text) {
         Ok(()) => Ok(()),

@@ -1,5 +1,5 @@
 -- What the records on the ends of loops say.
-use Rattle.std.proofs.Common.{◌≡◌, ◌≤◌, ℕ, ◌+◌, ◌-◌, ◌^◌, min, List, length, Option}
+use Rattle.std.proofs.Common.{◌≡◌, ◌≤◌, ℕ, ◌+◌, ◌-◌, ◌^◌, min, Bool, false, List, length, Option}
 use Rattle.std.specs.Io.KnownBytes.{IsAtEnd}
 use Rattle.durable_store.specs.Disks.{DiskRose, NoneFell}
 use Rattle.durable_store.specs.declared.store.Store.{Store}
@@ -10,12 +10,15 @@ use Rattle.node_endings.specs.declared.ending.LoopEnd.{LoopEnd}
 use Rattle.node_endings.specs.declared.ending.LoopEnd.TheVariants.{Done, Form, Failed}
 use Rattle.node_threads.specs.Works.{EndsWhole, WorkMade}
 
-module _ {D : Type 0} (counts : D → ℕ) (restored : ℕ) (end : LoopEnd) (taken : List (List ℕ)) (raised : ℕ) (old new : Store D) (made : WorkMade counts restored end taken raised old new) where
+module _ {D : Type 0} (counts : D → ℕ) (restored : ℕ) (end : LoopEnd) (faulty : Bool) (taken : List (List ℕ)) (raised : ℕ) (old new : Store D) (made : WorkMade counts restored end faulty taken raised old new) where
   pub made_rose : old.plan.firm ≤ new.plan.firm
   made_rose = made.rose
 
   pub made_stored : end ≡ Done → min (new.plan.firm - restored) (length taken) ≤ raised
   made_stored = made.stored
+
+  pub made_well : end ≡ Done → faulty ≡ false
+  made_well = made.well
 
   pub made_failed : end ≡ Failed → DiskRose counts old.disks new.disks
   made_failed = made.cause.rose

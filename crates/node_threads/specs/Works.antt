@@ -17,10 +17,12 @@ module _ {D : Type 0} where
     pub whole : faulty ≡ false
     pub sound : told → Stands (state_of cells store)
 
-  -- The number of firm entries did not fall. After a loop that is done, all that is firm and was taken is said to be stored. The loop fails only for a device whose count of failures rose.
-  pub record WorkMade (counts : D → ℕ) (restored : ℕ) (end : LoopEnd) (taken : List (List ℕ)) (raised : ℕ) (old new : Store D) : Type 0 where
+  -- The number of firm entries did not fall. After a loop that is done, all that is firm and was taken is said to be stored, and no round has failed.
+  -- The loop fails only for a device whose count of failures rose.
+  pub record WorkMade (counts : D → ℕ) (restored : ℕ) (end : LoopEnd) (faulty : Bool) (taken : List (List ℕ)) (raised : ℕ) (old new : Store D) : Type 0 where
     pub rose : old.plan.firm ≤ new.plan.firm
     pub stored : end ≡ Done → min (new.plan.firm - restored) (length taken) ≤ raised
+    pub well : end ≡ Done → faulty ≡ false
     pub cause : FailsByDisk end counts old.disks new.disks
     pub later : NoneFell counts old.disks new.disks
 

@@ -109,7 +109,7 @@ fn log_and_check<
     checker: &mut CheckWorker,
 ) -> WorkEnds
     requires work { MayWork D.told D.cells worker.old.faulty worker.old.store }
-    ensures made { WorkMade D.faults H.restored result.logged (lane_taken worker.new.lane) (lane_raised worker.new.lane) worker.old.store worker.new.store }
+    ensures made { WorkMade D.faults H.restored result.logged worker.new.faulty (lane_taken worker.new.lane) (lane_raised worker.new.lane) worker.old.store worker.new.store }
     ensures rounds { RoundsOf D.told D.remembers D.cells D.moment D.left_since E.stops S.meaning P.opening H.restored worker.new.faulty (lane_taken worker.old.lane) (lane_taken worker.new.lane) worker.old.store worker.new.store }
     ensures rises { checker.old.last ≤ checker.new.last }
     ensures no_disk { result.checked ≡ LoopEnd.Failed → ⊥ }
@@ -149,7 +149,7 @@ fn send_and_work<
     ensures wrote { Writes (W.written output.old) (W.written output.new) (not (gave_up result.sent)) outlet.old outlet.new }
     ensures cause { result.sent ≡ LoopEnd.Failed → Rose (W.faults output.old) (W.faults output.new) }
     ensures later { W.faults output.old ≤ W.faults output.new }
-    ensures made { WorkMade D.faults H.restored result.work.logged (lane_taken worker.new.lane) (lane_raised worker.new.lane) worker.old.store worker.new.store }
+    ensures made { WorkMade D.faults H.restored result.work.logged worker.new.faulty (lane_taken worker.new.lane) (lane_raised worker.new.lane) worker.old.store worker.new.store }
     ensures rounds { RoundsOf D.told D.remembers D.cells D.moment D.left_since E.stops S.meaning P.opening H.restored worker.new.faulty (lane_taken worker.old.lane) (lane_taken worker.new.lane) worker.old.store worker.new.store }
     ensures checked { result.work.checked ≡ LoopEnd.Failed → ⊥ }
 {
@@ -203,6 +203,7 @@ pub fn run_loops<
     ensures sent { result.sent ≡ LoopEnd.Failed → Rose (W.faults output.old) (W.faults output.new) }
     ensures rose { worker.old.store.plan.firm ≤ worker.new.store.plan.firm }
     ensures raised { result.logged ≡ LoopEnd.Done → min (worker.new.store.plan.firm - H.restored) (length (lane_taken worker.new.lane)) ≤ lane_raised worker.new.lane }
+    ensures well { result.logged ≡ LoopEnd.Done → worker.new.faulty ≡ false }
     ensures logged { result.logged ≡ LoopEnd.Failed → DiskRose D.faults worker.old.store.disks worker.new.store.disks }
     // The worker is the one before, after some rounds.
     ensures rounds { RoundsOf D.told D.remembers D.cells D.moment D.left_since E.stops S.meaning P.opening H.restored worker.new.faulty (lane_taken worker.old.lane) (lane_taken worker.new.lane) worker.old.store worker.new.store }

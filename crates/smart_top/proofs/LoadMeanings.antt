@@ -1,12 +1,12 @@
 -- Each line of a load has a meaning, and names what is there.
-use Rattle.std.proofs.Common.{◌≡◌, ◌∙◌, ◌⊎◌, ℕ, zero, suc, ◌+◌, ◌-◌, ◌%◌, ◌^◌, ◌<◌, ◌≤◌, ◌==◌, ◌||◌, ◌&&◌, Bool, true, false, cond, List, [], ◌∷◌, ◌++◌, length, take, map, Option, None, Some, codes, is_some, refl, ap, sym, subst, inl, inr, arith, le-leb, lt-ltb}
-use Rattle.std.specs.Prelude.{not, nat_le, nat_lt, Result, Ok, Err}
-use Rattle.std.specs.List.{list_all, list_any, position, position_or_len}
+use Rattle.std.proofs.Common.{◌≡◌, ◌∙◌, ◌⊎◌, ℕ, zero, suc, ◌+◌, ◌-◌, ◌%◌, ◌^◌, ◌<◌, ◌≤◌, ◌==◌, ◌||◌, ◌&&◌, Bool, true, false, cond, List, [], ◌∷◌, ◌++◌, length, take, map, Option, None, Some, codes, is_some, refl, ap, sym, subst, inl, inr, arith, le-leb}
+use Rattle.std.specs.Prelude.{nat_le, Result, Ok, Err, filter}
+use Rattle.std.specs.List.{list_all, list_any}
 use Rattle.std.specs.Fmt.{decimal}
-use Rattle.std.proofs.lemmas.Bool.{and_from, ltb-true}
+use Rattle.std.proofs.lemmas.Bool.{and_from}
 use Rattle.std.proofs.lemmas.Fmt.{decimal_by_steps, decimal_digit, length-decimal-le}
 use Rattle.smart_base.specs.Lists.{Each}
-use Rattle.smart_base.specs.Views.{View}
+use Rattle.smart_base.specs.Views.{View, is_member}
 use Rattle.smart_service.specs.Services.{IsPrintable}
 use Rattle.load_maker.specs.Loads.{drawn, crasher, flow_lines, crash_lines, ask_lines, last_drawn, asks_left, line_text}
 use Rattle.load_maker.specs.declared.line.LoadLine.{LoadLine}
@@ -37,6 +37,7 @@ use Rattle.script_play.proofs.ReadingLaws.{taken-refused}
 use Rattle.smart_top.proofs.ReadingPlays.{IsSound, after-sound, begun-sound}
 use Rattle.smart_top.proofs.Ending.{sums_are_brief, sums_are_restored}
 use Rattle.smart_top.proofs.LoadHeader.{four, headed, takes-header}
+use Rattle.world_laws.proofs.Names.{any_filtered, has_position}
 
 -- ---- a few numbers
 
@@ -227,47 +228,26 @@ asks_behind n (suc more) x =
 
 -- ---- members that are there
 
-some_cond : (t : Bool) (n : ℕ) → is_some (cond t (Some n) None) ≡ true → t ≡ true
-some_cond true n is = refl
-some_cond false n is = absurd (cc)
-
-some_step : (t : Bool) (n len : ℕ) → (t ≡ false → is_some (cond (nat_lt n len) (Some n) None) ≡ true)
-    → is_some (cond (nat_lt (cond (not t) (1 + n) 0) (suc len)) (Some (cond (not t) (1 + n) 0)) None) ≡ true
-some_step true n len more = rw (lt-ltb 0 (suc len) (omega arith)) refl
-some_step false n len more =
-    let lt : n < len = ltb-true n len (some_cond (nat_lt n len) n (more refl)) in
-    rw (lt-ltb (1 + n) (suc len) (omega (arith, lt))) refl
-
-or_false : (a b : Bool) → (a || b) ≡ true → a ≡ false → b ≡ true
-or_false true b is e = absurd (cc)
-or_false false b is e = is
-
--- a number among those of some values is that of one of them
-has_position : {A : Type 0} (number : A → ℕ) (xs : List A) (n : ℕ) → list_any (λ k. k == n) (map number xs) ≡ true → is_some (position (λ x. number x == n) xs) ≡ true
-has_position number [] n among = absurd (cc)
-has_position number (x ∷ xs) n among =
-    some_step (number x == n) (position_or_len (λ y. number y == n) xs) (length xs)
-    (λ other. has_position number xs n (or_false (number x == n) (list_any (λ k. k == n) (map number xs)) among other))
-
 take_all : {A : Type 0} (xs : List A) → take (length xs) xs ≡ xs
 take_all [] = refl
 take_all (x ∷ xs) = ap (λ ys. x ∷ ys) (take_all xs)
 
--- in each play of a load's header the members are 1 to 4
-ids_are : (p : Play Count) → IsSound counting p → p.group ≡ with_period four 16 → map (λ h. h.node.id) p.world.hosts ≡ 1 ∷ 2 ∷ 3 ∷ 4 ∷ []
+-- in each play of a load's header members 1 to 4 have nodes
+ids_are : (p : Play Count) → IsSound counting p → p.group ≡ with_period four 16 → filter (is_member p.world.view) (map (λ h. h.node.id) p.world.hosts) ≡ 1 ∷ 2 ∷ 3 ∷ 4 ∷ []
 ids_are p sound group =
     let law : OneListThroughout counting p.group p.lines = one_list-throughout counting sums_are_brief sums_are_restored p.group sound.headed p.lines in
     let k : ℕ = length p.lines in
     let whole : world_at counting p.group p.lines k ≡ p.world =
     ap (λ ls. world_after (course_of counting) (begun counting p.group) ls) (take_all p.lines) ∙ sym sound.stands in
-    ap (λ (w : World Count). map (λ h. h.node.id) w.hosts) (sym whole)
+    ap (λ (w : World Count). filter (is_member w.view) (map (λ h. h.node.id) w.hosts)) (sym whole)
     ∙ ((law.one_list k).members ∙ (ap (λ (v : View). v.members) (law.viewed k) ∙ ap (λ (g : Header). g.view.members) group))
 
 host_there : (p : Play Count) (member : ℕ) → IsSound counting p → p.group ≡ with_period four 16 → 1 ≤ member → member ≤ 4 → is_some (host_index p.world.hosts member) ≡ true
 host_there p member sound group least most =
     has_position (λ (h : Host Count). h.node.id) p.world.hosts member
+    (any_filtered (λ id. id == member) (is_member p.world.view) (map (λ h. h.node.id) p.world.hosts)
     (subst (λ ids. list_any (λ id. id == member) ids ≡ true) (sym (ids_are p sound group))
-    (by_four (λ k. list_any (λ id. id == k) (1 ∷ 2 ∷ 3 ∷ 4 ∷ []) ≡ true) refl refl refl refl member least most))
+    (by_four (λ k. list_any (λ id. id == k) (1 ∷ 2 ∷ 3 ∷ 4 ∷ []) ≡ true) refl refl refl refl member least most)))
 
 -- what a line names is there
 names_there : (p : Play Count) (line : LoadLine) → IsSound counting p → p.group ≡ with_period four 16 → IsBehind line → is_there p.world (meant line) ≡ true

@@ -23,7 +23,7 @@ use Rattle.smart_top.specs.Nodes.{IsFrames, NodeEnd, status_by}
 use Rattle.smart_top.proofs.WholeFrames.{consumes_read, never_cut}
 
 -- a room that is as it was
-still-room : (s : Settings) (room : Room) → room.after ≡ room.before → room.taken_after ≡ room.taken_before → KeepsRoom s room
+still-room : (s : Settings) (room : Room Cells) → room.after ≡ room.before → room.taken_after ≡ room.taken_before → KeepsRoom s room
 still-room s room same same-taken = record {
   beside = λ other a b c d. ap (λ (f : Address → Cells). f other) same;
   beside_taken = λ other a b c d. ap (λ (f : Address → Option ℕ). f other) same-taken;
@@ -36,19 +36,24 @@ still-room s room same same-taken = record {
 within-still : (d : Devices) → AreWithin d d
 within-still d = record { even_log = λ image is. is; odd_log = λ image is. is; even_slot = λ image is. is; odd_slot = λ image is. is }
 
-still-within : (s : Settings) (room : Room) → room.after ≡ room.before → AreWithin (devices_at room.after s.dir s.member) (devices_at room.before s.dir s.member)
+still-within : (s : Settings) (room : Room Cells) → room.after ≡ room.before → AreWithin (devices_at room.after s.dir s.member) (devices_at room.before s.dir s.member)
 still-within s room same =
     subst (λ (f : Address → Cells). AreWithin (devices_at f s.dir s.member) (devices_at room.before s.dir s.member)) (sym same) (within-still (devices_at room.before s.dir s.member))
 
 -- it had no memory before it read anything
-pub unread_node : (r : Run (List Entry)) (room : Room) → r.left_after ≡ r.left_before → r.written_after ≡ r.written_before → room.after ≡ room.before → room.taken_after ≡ room.taken_before
-    → NodeEnd r room ends.NoMemory
-unread_node r room unread unwritten same same-taken = record {
+pub unread_node : (r : Run (List Entry)) (room : Room Cells) → r.left_after ≡ r.left_before → r.written_after ≡ r.written_before → room.after ≡ room.before → room.taken_after ≡ room.taken_before
+    → r.trails.after ≡ r.trails.before → r.trails.taken_after ≡ r.trails.taken_before → NodeEnd r room ends.NoMemory
+unread_node r room unread unwritten same same-taken same-trails same-trails-taken = record {
   node = nodes.NoMemory;
   is = refl;
   ended = record {
     keeps = still-room r.settings room same same-taken;
-    ended = inl (record { none = record { why = tt; unread = unread; unwritten = unwritten }; same = λ told. inr tt; within = λ told. still-within r.settings room same });
+    ended = inl
+        (record {
+          none = record { why = tt; unread = unread; unwritten = unwritten; trails = record { kept = same-trails; taken = same-trails-taken } };
+          same = λ told. inr tt;
+          within = λ told. still-within r.settings room same;
+        });
   };
 }
 
@@ -106,7 +111,7 @@ disk_failed node is = node_ended node ends.DiskFault is
 none-some : (fault : Option ℕ) (entry : ℕ) → fault ≡ None → fault ≡ Some entry → ⊥
 none-some fault entry none is = absurd (cc)
 
-module _ (r : Run (List Entry)) (room : Room) (input : IsFrames r.left_before) (told : r.told) (sound : store_fault r.meaning r.settings (parts_in (restores r.images)) ≡ None)
+module _ (r : Run (List Entry)) (room : Room Cells) (input : IsFrames r.left_before) (told : r.told) (sound : store_fault r.meaning r.settings (parts_in (restores r.images)) ≡ None)
     (status : Status) (read : status ≡ ends.ReadFault → ⊥) (write : status ≡ ends.WriteFault → ⊥) (trail : status ≡ ends.TrailFault → ⊥) (disk : status ≡ ends.DiskFault → ⊥) where
   complete-by : (node : NodeStatus) → status ≡ status_by node → HasLeft r room node ⊎ HasKept r room node → (status ≡ ends.Ok) ⊎ (status ≡ ends.NoMemory)
   complete-by nodes.Ok is e = inl is

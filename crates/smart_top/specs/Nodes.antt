@@ -3,6 +3,7 @@ use Rattle.std.specs.Prelude.{◌≡◌, ℕ, List, Option, Some, None}
 use Rattle.std.specs.List.{flat_map}
 use Rattle.smart_base.specs.Lists.{Each}
 use Rattle.smart_base.specs.Views.{View}
+use Rattle.disk_model.specs.Cells.{Cells}
 use Rattle.frame_stream.specs.Frames.{framed, IsShort}
 use Rattle.store_laws.specs.Restored.{Images, restores}
 use Rattle.app_kv.specs.Snapshots.{keeping}
@@ -49,8 +50,8 @@ pub record IsFrames (left : Option (List ℕ)) : Type 0 where
 abbrev pub HaveMeaning : NodeWords → Images → Type 0
 HaveMeaning w images = store_fault keeping (settings_of w) (parts_in (restores images)) ≡ None
 
--- How a run of `node` ended, and what it left in the room of its devices.
-pub record NodeEnd (r : Run (List Entry)) (room : Room) (status : Status) : Type 0 where
+-- How a run of `node` ended, and what it left in the rooms of its devices and of its trail.
+pub record NodeEnd (r : Run (List Entry)) (room : Room Cells) (status : Status) : Type 0 where
   pub node : NodeStatus
   pub is : status ≡ status_by node
   pub ended : RunEnd r room node

@@ -116,7 +116,7 @@ where
     M::Disk: Send,
     T::Sink: Send,
     requires { FitsNode words }
-    ensures ended { NodeEnd (record { meaning = keeping; settings = settings_of words; disk = M.Disk; told = M.Disk.told; remembers = M.Disk.remembers; cells = M.Disk.cells; moment = M.Disk.moment; left_since = M.Disk.left_since; images = images_at (M.cells room.old) words.dir words.id; left_before = I.left input.old; left_after = I.left input.new; written_before = O.written output.old; written_after = O.written output.new; sink = T.Sink; text_of = T.Sink.written; trails_after = T.kept trails.new }) (record { before = M.cells room.old; after = M.cells room.new; taken_before = M.taken room.old; taken_after = M.taken room.new }) result }
+    ensures ended { NodeEnd (record { meaning = keeping; settings = settings_of words; disk = M.Disk; told = M.Disk.told; remembers = M.Disk.remembers; cells = M.Disk.cells; moment = M.Disk.moment; left_since = M.Disk.left_since; images = images_at (M.cells room.old) words.dir words.id; left_before = I.left input.old; left_after = I.left input.new; written_before = O.written output.old; written_after = O.written output.new; sink = T.Sink; text_of = T.Sink.written; trails = record { before = T.kept trails.old; after = T.kept trails.new; taken_before = T.taken trails.old; taken_after = T.taken trails.new } }) (record { before = M.cells room.old; after = M.cells room.new; taken_before = M.taken room.old; taken_after = M.taken room.new }) result }
     ensures read { result ≡ Status.ReadFault → Rose (I.faults input.old) (I.faults input.new) }
     ensures write { result ≡ Status.WriteFault → Rose (O.faults output.old) (O.faults output.new) }
     ensures trail { result ≡ Status.TrailFault → Rose (T.faults trails.old) (T.faults trails.new) }

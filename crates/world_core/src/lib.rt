@@ -4,5 +4,6 @@
 pub mod arrivals;
 pub mod byzantine;
 pub mod flow;
+pub mod joining;
 pub mod lines;
 pub mod world;

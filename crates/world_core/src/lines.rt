@@ -7,6 +7,7 @@ ghost use Rattle.world_rules.specs.Plays.{has_member, has_party, is_there, line_
 use crate::arrivals::give_number;
 use crate::byzantine::{declare_faulty, declare_rogue, inject};
 use crate::flow::flow;
+use crate::joining::add_node;
 use smart_base::name::MemberId;
 use smart_base::party::Party;
 use smart_service::service::Service;
@@ -75,6 +76,7 @@ pub fn is_there<S: Service>(world: &WorldState<S>, line: &Line) -> bool
         | Line::Restart { member }
         | Line::Settle { member }
         | Line::Faulty { member } => has_member(world, *member),
+        Line::Node { member } => !has_member(world, *member),
         Line::Inject(form) => is_injectable(world.sent(), form),
     }
 }
@@ -119,6 +121,7 @@ pub fn play<S: Service>(world: &mut WorldState<S>, line: &Line) -> Result<(), Al
         Line::Settle { member } => settle_member(world, *member),
         Line::SettleAll => settle_all(world, &[]),
         Line::Show => show(world),
+        Line::Node { member } => add_node(world, *member),
         Line::Faulty { member } => declare_faulty(world, *member),
         Line::Rogue { client } => declare_rogue(world, *client),
         Line::Inject(form) => inject(world, form),

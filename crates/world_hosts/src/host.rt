@@ -1,5 +1,5 @@
 //! A member's host, and what it tells of its node's steps.
-ghost use Rattle.std.specs.Prelude.{◌≡◌, ◌+◌, ◌++◌, ◌==◌, ◌&&◌, [], true, not, IfOk, OnOk, length, map, drop, is_some, nat_lt, Some, None, if◌then◌else◌};
+ghost use Rattle.std.specs.Prelude.{◌≡◌, ◌+◌, ◌^◌, ◌<◌, ◌++◌, ◌==◌, ◌&&◌, ◌≤◌, [], true, not, IfOk, OnOk, length, map, drop, is_some, nat_lt, Some, None, if◌then◌else◌};
 ghost use Rattle.std.specs.List.{flat_map};
 ghost use Rattle.std.specs.Option.{option_copied};
 ghost use Rattle.node_rules.specs.Nodes.{next_place, view_of};
@@ -11,7 +11,7 @@ ghost use Rattle.store_laws.specs.States.{is_due, given};
 ghost use Rattle.store_laws.specs.Stops.{is_installed};
 ghost use Rattle.store_plan.specs.Fit.{AreEntries};
 ghost use Rattle.node_rules.specs.Deliveries.{delivery_in, installed_in, segment_with, segment_after};
-ghost use Rattle.world_rules.specs.Worlds.{core_course, host_of_node, spelled_behind, disk_called, snapshot_in, told_drop, told_fired, chosen_with, asking_for, place_of_own, segment_of, tail_due, host_after, host_index, shown_host};
+ghost use Rattle.world_rules.specs.Worlds.{core_course, host_of_node, spelled_behind, disk_called, snapshot_in, told_drop, told_fired, chosen_with, asking_for, place_of_own, segment_of, tail_due, host_after, host_index, hosts_below, shown_host};
 ghost use Rattle.world_rules.specs.Premises.{is_among};
 ghost use Rattle.world_hosts.specs.Hearing.{firmness, is_idle, with_segment};
 ghost use Rattle.world_hosts.specs.Standing.{stands};
@@ -440,6 +440,30 @@ pub fn host_index<S: Service>(hosts: &[Host<S>], member: MemberId) -> Option<usi
     ensures { result ≡ host_index hosts.now member }
 {
     hosts.iter().position(|host| is_host_of(host, member))
+}
+
+/// A count, and one more if a host is of a member with a lower number.
+fn count_below<S: Service>(count: usize, host: &Host<S>, member: MemberId) -> usize
+    requires { count + 1 < 2 ^ 64 }
+    ensures { result ≡ count + (if nat_lt host.now.node.id member then 1 else 0) }
+{
+    if host.id().get() < member.get() {
+        count + 1
+    } else {
+        count
+    }
+}
+
+/// How many hosts are of members with lower numbers.
+pub fn hosts_below<S: Service>(hosts: &[Host<S>], member: MemberId) -> usize
+    ensures count { result ≡ hosts_below hosts.now member }
+    ensures within { result ≤ length hosts.now }
+{
+    let mut count = 0;
+    for host in hosts {
+        count = count_below(count, host, member);
+    }
+    count
 }
 
 /// Whether a list has a member.

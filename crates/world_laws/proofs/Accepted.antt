@@ -177,6 +177,7 @@ keeps-told m P telling k =
         meet = λ w texts on p. (k.kept.meet w texts on p.0, record { all = p.1.all });
       };
       resume = λ w i h down at p. (k.resume w i h down at p.0, record { all = p.1.all });
+      add = λ w i member on new p. (k.add w i member on new p.0, record { all = p.1.all });
     }
 
 -- in the beginning nothing is accepted

@@ -290,6 +290,7 @@ keeps-asked {S = S} m brief service =
         meet = λ w texts on p. (k.kept.meet w texts on p.0, record { each = p.1.each; chosen = p.1.chosen; clients = p.1.clients });
       };
       resume = λ w i h down at p. (k.resume w i h down at p.0, record { each = p.1.each; chosen = p.1.chosen; clients = p.1.clients });
+      add = λ w i member on new p. (k.add w i member on new p.0, record { each = p.1.each; chosen = p.1.chosen; clients = p.1.clients });
     }
 
 -- the beginning

@@ -324,6 +324,7 @@ keeps-right course =
       };
       crash = λ w i h left on up at may is. record { all = is.all };
       resume = λ w i h on down at is. record { all = is.all };
+      add = λ w i member on new is. record { all = is.all };
     }
 
 -- between two lines

@@ -15,7 +15,7 @@ use Rattle.world_laws.proofs.Reopens.{from_held}
 use Rattle.world_laws.proofs.Chosen.{HostRight, ChosenRight}
 use Rattle.world_laws.proofs.ChosenKept.{resumed-right, keeps-both, chosen-kept, chosen-begun, left_host, resumed_on, stopped_host}
 use Rattle.std.proofs.Common.{◌≡◌, ℕ, zero, suc, ◌+◌, ◌≤◌, ◌++◌, List, [], ◌∷◌, length, refl, ap, ◌∙◌, sym, arith, Option, Some, None, inl, inr, ⊎_elim, subst, take, length-append, append-nil, true, not, drop, false, Err, Ok, Result, append_assoc, ◌<◌}
-use Rattle.std.specs.Prelude.{IfSome, slice_get, slice_set}
+use Rattle.std.specs.Prelude.{IfSome, slice_get, slice_set, insert}
 use Rattle.smart_base.specs.Lists.{Each}
 use Rattle.smart_base.specs.Views.{View, present, is_view}
 use Rattle.smart_statements.specs.Forms.{SignedBy}
@@ -33,7 +33,7 @@ use Rattle.node_rules.specs.Steps.{Outcome, made_firm, step_of, leaving, opened,
 use Rattle.node_rules.specs.declared.node.Held.{Held}
 use Rattle.world_rules.specs.Repeats.{repeated}
 use Rattle.world_rules.specs.Secrets.{group_secret}
-use Rattle.world_rules.specs.Worlds.{course_of, Host, World, posts, sends_all, host_after, stepped, host_takes, node_takes, settle_once, settle_all, gives, heard_by, hearing, flow_once, hosts_from, begun, at_listed, host_crashed, host_resumed, from_to, is_up, is_halted, meets, takes_met, reaches, client_hears, hears_bytes, client_takes, outset_of, host_of_node, parts_held}
+use Rattle.world_rules.specs.Worlds.{course_of, Host, World, posts, sends_all, host_after, stepped, host_takes, node_takes, settle_once, settle_all, gives, heard_by, hearing, flow_once, hosts_from, begun, at_listed, host_crashed, host_resumed, from_to, is_up, is_halted, meets, takes_met, reaches, client_hears, hears_bytes, client_takes, outset_of, host_of_node, parts_held, new_host}
 use Rattle.world_rules.specs.Plays.{world_after}
 use Rattle.world_rules.specs.declared.line.Line.{Line}
 use Rattle.world_rules.specs.declared.message.Origin.{Origin}
@@ -46,9 +46,9 @@ use Rattle.replica_laws.proofs.Leaving.{leaving_rest}
 use Rattle.replica_laws.proofs.Onward.{rests-more, HasDecided, HoldsRight, NodeRests, Onward, onward-step, rests-released, rests-opened, Longer, longer-append}
 use Rattle.world_laws.specs.Sending.{IsRested, Bears, IsBorneAt, IsBorne, SentFirm, IsOwnSent}
 use Rattle.world_laws.specs.Settling.{flow_begins, flow_goes, message_goes, node_goes, settles_present}
-use Rattle.world_laws.proofs.Lists.{each_set, each_get, repeated_keeps, each_from_keeps}
+use Rattle.world_laws.proofs.Lists.{each_set, each_get, repeated_keeps, each_from_keeps, each_insert}
 use Rattle.world_laws.proofs.Stores.{IsTold, may-told, firm-grows, LastFits, Stored, stored-called, stored-opened, stored-stepped}
-use Rattle.world_laws.proofs.Keeps.{after_call, called, ask_of, asked_by, by-posts, Keeps, KeepsCalm, live, calm, keeps-world_after, live-settle_once, live-settle, live-settle_all, live-flow_once, at_listed-keeps, signed_by, from_node, from_client, from_script, live-settles_present, IsDown, KeepsAll, with_host, node_resumed, is-up, give_one-keeps, goes-keeps}
+use Rattle.world_laws.proofs.Keeps.{after_call, called, ask_of, asked_by, by-posts, Keeps, KeepsCalm, live, calm, keeps-world_after, live-settle_once, live-settle, live-settle_all, live-flow_once, at_listed-keeps, signed_by, from_node, from_client, from_script, live-settles_present, IsDown, KeepsAll, with_host, node_resumed, is-up, give_one-keeps, goes-keeps, added}
 use Rattle.agreement_laws.proofs.Lists.{either, some_equal, each_end, either_by, not_false, among_left, among_right, each_both}
 use Rattle.smart_base.proofs.ViewFacts.{each-weaken}
 use Rattle.world_rules.specs.declared.line.Header.{Header}
@@ -458,16 +458,6 @@ borne-resumed {S = S} m service w i h down at r is =
       low = next.lasts.low;
     }) is
 
--- the list is right, and what was sent rests on entries that became firm
-pub right-borne : {S : Type 0} (m : Meaning S) → IsBrief m → IsRestorable m → KeepsAll (course_of m) (λ w. ChosenRight m w × Borne w)
-right-borne m brief service =
-    record {
-      kept = keeps-both (course_of m) (ChosenRight m) Borne (chosen-kept m brief service).kept (keeps-borne m);
-      resume = λ w i h down at is. ((chosen-kept m brief service).resume w i h down at is.0, borne-resumed m service w i h down at is.0 is.1);
-    }
-
--- the worlds of a play
-
 -- hosts that have just opened rest
 hosts_rest : {S : Type 0} (m : Meaning S) (view : View) (period : ℕ) (ids : List ℕ) → Each (HostRests view) (hosts_from m view period ids)
 hosts_rest m view period [] = tt
@@ -495,6 +485,44 @@ hosts_rest m view period (id ∷ ids) = (opened_rests m view period id, hosts_re
           };
           low = omega arith;
         }
+
+-- what a host bears, it bears beside one more
+borne_at-insert : {S : Type 0} (hosts : List (Host S)) (i : ℕ) (h : Host S) (id : ℕ) (x : Content) → IsBorneAt hosts id x → IsBorneAt (insert hosts i h) id x
+borne_at-insert [] zero h id x borne = absurd borne
+borne_at-insert [] (suc i) h id x borne = absurd borne
+borne_at-insert (g ∷ hs) zero h id x borne = inr borne
+borne_at-insert (g ∷ hs) (suc i) h id x (inl here) = inl here
+borne_at-insert (g ∷ hs) (suc i) h id x (inr later) = inr (borne_at-insert hs i h id x later)
+
+borne-insert : {S : Type 0} (hosts : List (Host S)) (i : ℕ) (h : Host S) (o : Origin) (x : Content) → IsBorne hosts o x → IsBorne (insert hosts i h) o x
+borne-insert hosts i h (origins.Node id) x borne = borne_at-insert hosts i h id x borne
+borne-insert hosts i h (origins.Client id) x borne = tt
+borne-insert hosts i h origins.Script x borne = tt
+
+-- a new node is added
+borne-added : {S : Type 0} (m : Meaning S) (w : World S) (i member : ℕ) → Borne w → Borne (added (course_of m) w i member)
+borne-added {S = S} m w i member is =
+    let h : Host S = new_host m w member in
+    record {
+      viewed = is.viewed;
+      hosts = each_insert (HostRests w.view) w.hosts i h is.hosts (hosts_rest m w.view w.period (member ∷ [])).0;
+      sent = record {
+        own = is.sent.own;
+        borne = each-weaken (λ (s : Sent). IsBorne w.hosts s.origin s.content) (λ (s : Sent). IsBorne (insert w.hosts i h) s.origin s.content)
+            (λ s borne. borne-insert w.hosts i h s.origin s.content borne) w.sent is.sent.borne;
+      };
+    }
+
+-- the list is right, and what was sent rests on entries that became firm
+pub right-borne : {S : Type 0} (m : Meaning S) → IsBrief m → IsRestorable m → KeepsAll (course_of m) (λ w. ChosenRight m w × Borne w)
+right-borne m brief service =
+    record {
+      kept = keeps-both (course_of m) (ChosenRight m) Borne (chosen-kept m brief service).kept (keeps-borne m);
+      resume = λ w i h down at is. ((chosen-kept m brief service).resume w i h down at is.0, borne-resumed m service w i h down at is.0 is.1);
+      add = λ w i member on new is. ((chosen-kept m brief service).add w i member on new is.0, borne-added m w i member is.1);
+    }
+
+-- the worlds of a play
 
 -- at the beginning
 pub borne-begun : {S : Type 0} (m : Meaning S) (g : Header) → IsHeader g → Borne (begun m g)

@@ -1,7 +1,7 @@
 -- The list of chosen batches: each is certified, and every host stands along it.
 use Rattle.std.proofs.Common.{◌≡◌, ℕ, zero, suc, ◌+◌, ◌-◌, ◌^◌, ◌<◌, ◌≤◌, ◌++◌, ◌==◌, Bool, cond, true, false, List, [], ◌∷◌, length, ◌∙◌, sym, refl, inl, inr, arith, Option, Some, None, subst, take, length-append, eqb-true, eq-eqb, ap}
 use Rattle.std.proofs.lemmas.List.{length-take-le}
-use Rattle.std.specs.Prelude.{IfSome, map, slice_get}
+use Rattle.std.specs.Prelude.{IfSome, slice_get}
 use Rattle.smart_base.specs.Lists.{Each}
 use Rattle.smart_base.specs.Views.{View, is_view}
 use Rattle.smart_statements.specs.Batches.{Batch}
@@ -34,7 +34,7 @@ use Rattle.node_laws.proofs.CertifiedBooks.{certified_book}
 use Rattle.world_rules.specs.Secrets.{group_secret}
 use Rattle.world_rules.specs.Premises.{is_among, too_many}
 use Rattle.world_rules.specs.Worlds.{Host, World, chosen_with, host_of, written}
-use Rattle.world_laws.specs.Promises.{IsChosenAt}
+use Rattle.world_laws.specs.Promises.{IsChosenAt, IsWitness}
 use Rattle.node_rules.specs.Deliveries.{AtPlaces}
 use Rattle.world_rules.specs.declared.message.Sent.{Sent}
 use Rattle.replica_laws.proofs.Follows.{WasDue}
@@ -50,8 +50,9 @@ use Rattle.world_laws.proofs.Few.{FewHost, few-sent}
 use Rattle.world_laws.proofs.Fronts.{front-same, front-append, front-length, front-take, front-batch_at}
 use Rattle.world_laws.proofs.NoClash.{IsMet, met-grows}
 use Rattle.world_laws.proofs.Grounded.{EntryMet, entry-weaker, Grounded, grounded-exact}
-use Rattle.world_laws.proofs.Witnessing.{HostStands, witnessing, AllShown, stated-end, stated-grows, among-all}
+use Rattle.world_laws.proofs.Witnessing.{HostStands, witness-of, witnessing, AllShown, stated-end, stated-grows, among-all}
 use Rattle.world_laws.proofs.Unforged.{Unforged}
+use Rattle.world_laws.proofs.Names.{AreNames, names}
 use Rattle.smart_base.proofs.ViewFacts.{each-weaken}
 
 -- a book from which a member may go on, which makes no place past the end of the list
@@ -93,7 +94,7 @@ pub record HostRight {S : Type 0} (sent : List Sent) (m : Meaning S) (view : Vie
 -- a world in which all hosts are right, each member has one host, each chosen batch is certified, few are faulty, and what has been stated is shown
 pub record WorldRight {S : Type 0} (m : Meaning S) (w : World S) : Type 0 where
   pub right : Each (HostRight w.sent m w.view w.chosen) w.hosts
-  pub ids : map (λ h. h.node.id) w.hosts ≡ w.view.members
+  pub ids : AreNames w.view (names w.hosts)
   pub viewed : is_view w.view ≡ true
   pub period_fits : w.period < 2 ^ 32
   pub certified : AreDecided (stated w.sent) w.view w.chosen
@@ -170,12 +171,16 @@ each-step P chosen n (Some batch) own all = either (λ (bs : List Batch). Each P
 
 -- what has been stated in a right world
 
+-- each member's diary is a witness
+pub right-witness : {S : Type 0} (m : Meaning S) (w : World S) → WorldRight m w → (member : ℕ) → IsWitness w member
+right-witness {S = S} m w r =
+    witness-of w
+    (each-weaken (HostRight w.sent m w.view w.chosen) (HostStands (stated w.sent) w.view) (λ h right. record { lawful = right.diary.sound.lawful; backed = right.diary.sound.backed }) w.hosts r.right)
+    r.shown
+
 -- what members have stated is witnessed
 pub right-witnessed : {S : Type 0} (m : Meaning S) (w : World S) → WorldRight m w → Witnessed group_secret digest_of w.view (is_among w.faulty) (diary w) (stated w.sent)
-right-witnessed {S = S} m w r =
-    witnessing w r.viewed r.few
-    (each-weaken (HostRight w.sent m w.view w.chosen) (HostStands (stated w.sent) w.view) (λ h right. record { lawful = right.diary.sound.lawful; backed = right.diary.sound.backed }) w.hosts r.right)
-    r.ids r.shown
+right-witnessed m w r = witnessing w r.viewed r.few (right-witness m w r)
 
 -- so all marks of diaries are
 each_found : {S : Type 0} (P : Host S → Type 0) (hosts : List (Host S)) (member : ℕ) (h : Host S) → Each P hosts → host_of hosts member ≡ Some h → P h

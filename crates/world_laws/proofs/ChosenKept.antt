@@ -7,11 +7,11 @@ use Rattle.world_laws.proofs.Few.{may-have, few-opened, few-book}
 use Rattle.world_laws.proofs.Fitting.{FitHost, own-fits, spelled-life, step-fit}
 use Rattle.world_laws.proofs.Lives.{book_left, lasts-opened, Stopped, has_diary, left_made, left_texts, left_upto, life-firm, place_left}
 use Rattle.world_laws.proofs.ChosenLives.{GoesOn, all_states, goes_on, host-called, host-crashes, host-resumes, node_left, own_left}
-use Rattle.std.proofs.Common.{◌^◌, ◌<◌, ◌≡◌, ⊎_elim, ◌⊎◌, inl, inr, ℕ, ◌≤◌, true, false, List, [], ◌∷◌, ◌++◌, length, refl, ap, ◌∙◌, sym, arith, Option, Some, None, subst, take, length-append, zero, suc, nat_lt, filter, drop, nat_le, not, ◌&&◌}
+use Rattle.std.proofs.Common.{◌^◌, ◌<◌, ◌≡◌, ⊎_elim, ◌⊎◌, inl, inr, ℕ, ◌≤◌, true, false, List, [], ◌∷◌, ◌++◌, length, refl, ap, ◌∙◌, sym, arith, Option, Some, None, subst, take, length-append, zero, suc, nat_lt, filter, drop, nat_le, not, ◌&&◌, append-nil, append_assoc, ◌==◌, is_some}
 use Rattle.std.proofs.lemmas.Bool.{le-ltb, ltb-true, leb-true}
 use Rattle.std.specs.Prelude.{IfSome, map, slice_get, slice_set}
 use Rattle.std.specs.List.{flat_map, list_all, list_any}
-use Rattle.smart_base.specs.Lists.{Each, Distinct, same_bytes}
+use Rattle.smart_base.specs.Lists.{Each, same_bytes}
 use Rattle.smart_base.specs.Views.{View}
 use Rattle.smart_base.specs.declared.party.Party.{Party}
 use Rattle.smart_base.specs.declared.party.Party.TheVariants as parties
@@ -30,16 +30,16 @@ use Rattle.node_rules.specs.Nodes.{Node, next_place, view_of}
 use Rattle.node_rules.specs.Steps.{step_of, leaving, opened, takes_in}
 use Rattle.node_rules.specs.declared.node.Held.{Held}
 use Rattle.agreement_laws.specs.Statements.{Statement, Asked, signer_of, within}
-use Rattle.agreement_laws.proofs.Lists.{among_flat, each_among, each_both, some_equal}
+use Rattle.agreement_laws.proofs.Lists.{among_flat, each_among, each_both}
 use Rattle.agreement_laws.specs.Lists.{Certified}
 use Rattle.vote_book.specs.declared.entry.LogEntry.{LogEntry}
-use Rattle.smart_base.proofs.ViewFacts.{view-distinct, each-weaken}
+use Rattle.smart_base.proofs.ViewFacts.{each-weaken}
 use Rattle.client_quorum.specs.Clients.{request_of}
 use Rattle.node_laws.specs.Sound.{HasBatch}
 use Rattle.node_laws.proofs.Passes.{sound_opened}
 use Rattle.world_rules.specs.Secrets.{group_secret}
 use Rattle.world_rules.specs.Clients.{heard}
-use Rattle.world_rules.specs.Worlds.{Course, course_of, Host, World, from_to, posts, sends_all, chosen_with, host_after, stepped, hearing, hosts_from, begun, host_of_node, host_resumed, host_crashed, meets, outset_of, snapshot_in, written}
+use Rattle.world_rules.specs.Worlds.{Course, course_of, Host, World, from_to, posts, sends_all, chosen_with, host_after, stepped, hearing, hosts_from, begun, host_of_node, host_resumed, host_crashed, meets, outset_of, snapshot_in, written, new_host}
 use Rattle.world_rules.specs.Plays.{world_after}
 use Rattle.world_rules.specs.Premises.{is_among, is_excused, is_forged, too_many}
 use Rattle.world_laws.specs.Promises.{IsHeader, IsNext, IsPrefix}
@@ -50,18 +50,18 @@ use Rattle.world_rules.specs.declared.message.Content.{Content}
 use Rattle.world_rules.specs.declared.message.Content.TheVariants as contents
 use Rattle.world_rules.specs.declared.message.Sent.{Sent}
 use Rattle.world_rules.specs.Stated.{HasDiary, stated_in, stated, IsWitnessed}
-use Rattle.world_laws.proofs.Lists.{each_set, each_get}
-use Rattle.world_laws.proofs.Keeps.{after_call, IsRead, called, ask_of, asked_by, by-posts, by-posts-ended, IsUp, Keeps, KeepsBut, MayTake, keeps-world_after, ReadsSent, MayRead, may_read, signed_by, from_node, from_client, from_script, IsDown, KeepsAll, with_host, entries_left, node_resumed}
+use Rattle.world_laws.proofs.Lists.{each_set, each_get, each_insert}
+use Rattle.world_laws.proofs.Keeps.{after_call, IsRead, called, ask_of, asked_by, by-posts, by-posts-ended, IsUp, Keeps, KeepsBut, MayTake, keeps-world_after, ReadsSent, MayRead, may_read, signed_by, from_node, from_client, from_script, IsDown, KeepsAll, with_host, entries_left, node_resumed, IsNew, added}
 use Rattle.replica_laws.proofs.Small.{IsBrief}
 use Rattle.world_laws.proofs.NoClash.{IsMet, IsTextMet, text-grows}
-use Rattle.world_laws.proofs.Grounded.{grounded-event, grounded-reads, keeps-grounded, grounded-begun, HostMet, grounded-resumes, EntryMet}
+use Rattle.world_laws.proofs.Grounded.{grounded-event, grounded-reads, keeps-grounded, grounded-begun, HostMet, grounded-resumes, EntryMet, grounded-added}
 use Rattle.world_laws.proofs.Unforged.{keeps-unforged, fine_own}
 use Rattle.world_laws.proofs.Aligned.{Aligned, AllAligned}
 use Rattle.world_laws.proofs.Fronts.{front-same}
 use Rattle.world_laws.proofs.Stating.{IsSaid, message_says}
 use Rattle.replica_laws.proofs.Longer.{front_same}
 use Rattle.world_laws.proofs.Stores.{IsTold, may-told}
-use Rattle.world_laws.proofs.Witnessing.{stated-grows, StatesShown, ShowsOwn, Firmer, firm_of, shown-faulty, shown-sent, shown-set, leave_shown}
+use Rattle.world_laws.proofs.Witnessing.{stated-grows, StatesShown, ShowsOwn, Firmer, firm_of, shown-faulty, shown-sent, shown-set, leave_shown, IsShownAt, ids-set, shown-added}
 use Rattle.world_laws.proofs.Chosen.{HostRight, WorldRight, Based, ChosenRight, are_restorable, book-along, chosen-front, certified-step, right-witnessed, host_longer, certified_sent, host_sent, BookRight, none_right, each-step, low-step}
 use Rattle.world_rules.specs.declared.line.Header.{Header}
 use Rattle.vote_book.specs.declared.entry.LogEntry.TheVariants.{Decided}
@@ -92,6 +92,7 @@ use Rattle.store_form.specs.declared.checkpoint.Checkpoint.{Checkpoint}
 use Rattle.store_laws.specs.Asked.{IsOneOf}
 use Rattle.replica_laws.proofs.FitNodes.{FitsSnapshot, Settles}
 use Rattle.state_transfer.specs.declared.fetch.Fetch.{Fetch}
+use Rattle.world_laws.proofs.Names.{AreNames, map_insert, names, names_first, names_insert, none_named}
 
 -- messages leave
 
@@ -148,7 +149,7 @@ right-posts {S = S} m w s states r =
 states-posts : {S : Type 0} (w : World S) (s : Sent) (c : Content) → StatesShown w.faulty (stated w.sent) w.hosts c → StatesShown (posts w s).faulty (stated (posts w s).sent) (posts w s).hosts c
 states-posts {S = S} w s c states =
     by-posts (λ (v : World S). StatesShown v.faulty (stated v.sent) v.hosts c) w s (λ ending. states)
-    (λ free room. λ x there. ⊎_elim {C = Among x (stated (w.sent ++ s ∷ [])) ⊎ Each (ShowsOwn w.faulty x) w.hosts} (λ old. inl (stated-grows w.sent s x old)) (λ shows. inr shows) (states x there))
+    (λ free room. λ x there. ⊎_elim {C = Among x (stated (w.sent ++ s ∷ [])) ⊎ IsShownAt w.faulty w.hosts x} (λ old. inl (stated-grows w.sent s x old)) (λ shows. inr shows) (states x there))
 
 -- messages of a node leave
 right-sends_all : {S : Type 0} (m : Meaning S) (id : ℕ) (view : View) (w : World S) (held : List Held) → Each (λ h. StatesShown w.faulty (stated w.sent) w.hosts (contents.Message h.message)) held → WorldRight m w
@@ -170,6 +171,9 @@ client_shows : {S : Type 0} (faulty : List ℕ) (x : Statement) (id : ℕ) (host
 client_shows faulty x id [] who = tt
 client_shows faulty x id (h ∷ hs) who = (λ own correct. absurd (no_member id h.node.id (sym who ∙ own)), client_shows faulty x id hs who)
 
+client_shown : {S : Type 0} (faulty : List ℕ) (x : Statement) (id : ℕ) (hosts : List (Host S)) → signer_of x ≡ parties.Client id → IsShownAt faulty hosts x
+client_shown faulty x id hosts who = (client_shows faulty x id hosts who, λ member is. absurd (no_member id member (sym who ∙ is)))
+
 -- what a client asks states its request alone
 pub asks_alone : (q : SignedBy Request) (x : Statement) → Among x (stated_in (contents.Message (Ask q))) → x ≡ Asked q
 asks_alone q x there =
@@ -185,7 +189,7 @@ asks_alone q x there =
     one s x (inr none) = absurd none
 
 ask_shows : {S : Type 0} (w : World S) (q : SignedBy Request) → StatesShown w.faulty (stated w.sent) w.hosts (contents.Message (Ask q))
-ask_shows w q x there = inr (client_shows w.faulty x q.signer w.hosts (ap (λ (s : Statement). signer_of s) (asks_alone q x there)))
+ask_shows w q x there = inr (client_shown w.faulty x q.signer w.hosts (ap (λ (s : Statement). signer_of s) (asks_alone q x there)))
 
 -- of who is excused nothing is said
 excused_shows : {S : Type 0} (faulty rogue : List ℕ) (x : Statement) (hosts : List (Host S)) → is_excused faulty rogue (signer_of x) ≡ true → Each (ShowsOwn faulty x) hosts
@@ -196,6 +200,10 @@ excused_shows faulty rogue x (h ∷ hs) excused =
     both : true ≡ false → ⊥
     both same = cc
 
+excused_shown : {S : Type 0} (faulty rogue : List ℕ) (x : Statement) (hosts : List (Host S)) → is_excused faulty rogue (signer_of x) ≡ true → IsShownAt faulty hosts x
+excused_shown faulty rogue x hosts excused =
+    (excused_shows faulty rogue x hosts excused, λ member who. inl (subst (λ (p : Party). is_excused faulty rogue p ≡ true) who excused))
+
 -- what a message that was sent states has been stated
 stands_stated : (sent : List Sent) (s : Sent) (x : Statement) → Among s sent → Among x (stated_in s.content) → Among x (stated sent)
 stands_stated sent s x there states = among_flat (λ (t : Sent). stated_in t.content) sent s x there states
@@ -203,14 +211,8 @@ stands_stated sent s x there states = among_flat (λ (t : Sent). stated_in t.con
 -- what is injected and not forged
 inject_shows : {S : Type 0} (w : World S) (c : Content) → is_forged w.faulty w.rogue w.sent c ≡ false → Each (λ s. IsRead s.content) w.sent → IsRead c → StatesShown w.faulty (stated w.sent) w.hosts c
 inject_shows {S = S} w c fine reads read x there =
-    ⊎_elim {C = Among x (stated w.sent) ⊎ Each (ShowsOwn w.faulty x) w.hosts} (λ excused. inr (excused_shows w.faulty w.rogue x w.hosts excused))
+    ⊎_elim {C = Among x (stated w.sent) ⊎ IsShownAt w.faulty w.hosts x} (λ excused. inr (excused_shown w.faulty w.rogue x w.hosts excused))
     (λ own. inl (stands_stated w.sent own.stands.message x own.stands.there own.stands.states)) (fine_own w.faulty w.rogue w.sent c x fine reads read there)
-
--- hosts keep their names
-pub ids-set : {S : Type 0} (hs : List (Host S)) (i : ℕ) (h h' : Host S) → slice_get hs i ≡ Some h → h'.node.id ≡ h.node.id → map (λ y. y.node.id) (slice_set hs i h') ≡ map (λ y. y.node.id) hs
-ids-set [] i h h' at same = absurd (cc)
-ids-set {S = S} (x ∷ hs) zero h h' at same = ap (λ y. y ∷ map (λ z. z.node.id) hs) (same ∙ sym (ap (λ (z : Host S). z.node.id) (some_equal x h at)))
-ids-set (x ∷ hs) (suc i) h h' at same = ap (λ ys. x.node.id ∷ ys) (ids-set hs i h h' at same)
 
 -- a host's node takes an event
 
@@ -292,7 +294,7 @@ right-event {S = S} m service w i h event on up at may came told text fit r =
     let hr : HostRight w.sent m w.view w.chosen h = host-right m w i h at r in
     let here : HostRight w.sent m w.view more h' = host-stepped m w i h event on up at may came told service r hr text in
     let l : Later h.node n' = goes_later m w i h event on up at may came told service r hr text in
-    let ids : map (λ g. g.node.id) (slice_set w.hosts i h') ≡ w.view.members = ids-set w.hosts i h h' at l.named ∙ r.1.ids in
+    let ids : AreNames w.view (names (slice_set w.hosts i h')) = subst (AreNames w.view) (sym (ids-set w.hosts i h h' at l.named)) r.1.ids in
     let written_fit : Each FitsEntry (written h') =
     written_fits h' (life-firm FitsEntry h.life h.node n' fit.book (spelled-life h.life (host-fit m w i h at r).life)).diary fit.book in
     let spelled : Each FitsEntry here.whole = subst (λ (es : List LogEntry). Each FitsEntry es) (sym (here.wrote.is up)) written_fit in
@@ -301,7 +303,7 @@ right-event {S = S} m service w i h event on up at may came told text fit r =
     let marked : List (List ℕ) = all_marked w.sent w.marked snapshots in
     let grows : (text : List ℕ) → IsTextMet w.sent w.marked text → IsTextMet w.sent marked text = met-more w.sent w.marked snapshots in
     right-sends_all m h.node.id (view_of n') _ (leaving n'.firm n'.held)
-    (leave_shown w.faulty (stated w.sent) (slice_set w.hosts i h') i h' n'.firm n'.held (subst Distinct (sym ids) (view-distinct w.view r.1.viewed)) (set_get w.hosts i h h' at)
+    (leave_shown w.faulty (stated w.sent) (slice_set w.hosts i h') i h' n'.firm n'.held ids.once (set_get w.hosts i h h' at)
     (λ x there low. leaves_shown m w i h event on up at may came told service r hr text x there low))
     (record {
       right = each_set (HostRight w.sent m w.view more) w.hosts i h'
@@ -339,7 +341,7 @@ right-set : {S : Type 0} (m : Meaning S) (w : World S) (i : ℕ) (h h' : Host S)
     → WorldRight m (with_host w i h')
 right-set {S = S} m w i h h' at f right marked fetches r = record {
   right = each_set (HostRight w.sent m w.view w.chosen) w.hosts i h' r.right right;
-  ids = ids-set w.hosts i h h' at f.named ∙ r.ids;
+  ids = subst (AreNames w.view) (sym (ids-set w.hosts i h h' at f.named)) r.ids;
   viewed = r.viewed;
   period_fits = r.period_fits;
   certified = r.certified;
@@ -586,25 +588,7 @@ chosen-keeps m brief service =
       meet = λ w texts on r. (k.meet w texts on r.0, right-meets m w texts r.1);
     }
 
--- and that, too
-pub chosen-kept : {S : Type 0} (m : Meaning S) → IsBrief m → IsRestorable m → KeepsAll (course_of m) (ChosenRight m)
-chosen-kept m brief service =
-    record { kept = chosen-keeps m brief service; resume = λ w i h down at r. (based-resumes m brief service w i h down at r, right-resumed m service w i h down.0 at r) }
-
--- what is kept where what was sent is read, is kept where the list is right
-pub right-reads : {S : Type 0} (m : Meaning S) (w : World S) → ChosenRight m w → ReadsSent w
-right-reads m w r = grounded-reads w r.0.0
-
--- what members have stated is witnessed, and each chosen batch is certified
-pub chosen-witnessed : {S : Type 0} (m : Meaning S) (w : World S) → ChosenRight m w → IsWitnessed w
-chosen-witnessed {S = S} m w r =
-    record {
-      diaries = each-weaken (HostRight w.sent m w.view w.chosen) (λ (h : Host S). HasDiary h) (λ h right. has_diary right.all right.past h right.lasts) w.hosts r.1.right;
-      witnessed = right-witnessed m w r.1;
-      chosen = r.1.certified;
-    }
-
--- the beginning
+-- new nodes
 
 -- opened hosts are right
 hosts_right : {S : Type 0} (m : Meaning S) (view : View) (period : ℕ) (members : List ℕ) → Each (HostRight [] m view []) (hosts_from m view period members)
@@ -656,6 +640,65 @@ pub hosts_ids : {S : Type 0} (m : Meaning S) (view : View) (period : ℕ) (membe
 hosts_ids m view period [] = refl
 hosts_ids m view period (id ∷ ids) = ap (λ xs. id ∷ xs) (hosts_ids m view period ids)
 
+-- what is right where less is sent, is right where more is
+host_sent_all : {S : Type 0} (sent more : List Sent) (m : Meaning S) (view : View) (chosen : List Batch) (h : Host S) → HostRight sent m view chosen h → HostRight (sent ++ more) m view chosen h
+host_sent_all {S = S} sent [] m view chosen h r = subst (λ (xs : List Sent). HostRight xs m view chosen h) (sym (append-nil sent)) r
+host_sent_all {S = S} sent (s ∷ more) m view chosen h r =
+    subst (λ (xs : List Sent). HostRight xs m view chosen h) (append_assoc sent (s ∷ []) more) (host_sent_all (sent ++ s ∷ []) more m view chosen h (host_sent sent s m view chosen h r))
+
+-- the host of a new node is right, whatever was sent and decided
+new-right : {S : Type 0} (m : Meaning S) (w : World S) (member : ℕ) → HostRight w.sent m w.view w.chosen (new_host m w member)
+new-right m w member =
+    host_longer w.sent m w.view [] w.chosen refl (new_host m w member) (host_sent_all [] w.sent m w.view [] (new_host m w member) (hosts_right m w.view w.period (member ∷ [])).0)
+
+-- a new node is added
+right-added : {S : Type 0} (m : Meaning S) (w : World S) (i member : ℕ) → IsNew w member → WorldRight m w → WorldRight m (added (course_of m) w i member)
+right-added {S = S} m w i member new r =
+    let h : Host S = new_host m w member in
+    let none : list_any (λ k. k == member) (names w.hosts) ≡ false = none_named w.hosts member (ap (λ (found : Option ℕ). is_some found) new.none) in
+    record {
+      right = each_insert (HostRight w.sent m w.view w.chosen) w.hosts i h r.right (new-right m w member);
+      ids = subst (AreNames w.view) (sym (map_insert (λ (g : Host S). g.node.id) w.hosts i h)) (names_insert w.view (names w.hosts) i member r.ids none);
+      viewed = r.viewed;
+      period_fits = r.period_fits;
+      certified = r.certified;
+      few = r.few;
+      shown = shown-added w.faulty (stated w.sent) w.hosts i h none r.shown;
+      begins = r.begins;
+      low = r.low;
+      of = r.of;
+      short = r.short;
+      marks = λ on. each_insert (HostMarks m w.view w.chosen w.sent w.marked) w.hosts i h (r.marks on) (marks-opened m w.view w.chosen w.sent w.marked member w.view w.period);
+      fetched = λ on. each_insert (λ (g : Host S). IsFetchMet w.sent w.marked g.node.fetch) w.hosts i h (r.fetched on) tt;
+    }
+
+-- each event keeps the list right
+pub chosen-kept : {S : Type 0} (m : Meaning S) → IsBrief m → IsRestorable m → KeepsAll (course_of m) (ChosenRight m)
+chosen-kept m brief service =
+    record {
+      kept = chosen-keeps m brief service;
+      resume = λ w i h down at r. (based-resumes m brief service w i h down at r, right-resumed m service w i h down.0 at r);
+      add = λ w i member on new r. (
+        (grounded-added m w i member r.1.viewed r.1.period_fits new r.0.0, (keeps-unforged (course_of m)).add w i member on new r.0.1),
+        right-added m w i member new r.1,
+      );
+    }
+
+-- what is kept where what was sent is read, is kept where the list is right
+pub right-reads : {S : Type 0} (m : Meaning S) (w : World S) → ChosenRight m w → ReadsSent w
+right-reads m w r = grounded-reads w r.0.0
+
+-- what members have stated is witnessed, and each chosen batch is certified
+pub chosen-witnessed : {S : Type 0} (m : Meaning S) (w : World S) → ChosenRight m w → IsWitnessed w
+chosen-witnessed {S = S} m w r =
+    record {
+      diaries = each-weaken (HostRight w.sent m w.view w.chosen) (λ (h : Host S). HasDiary h) (λ h right. has_diary right.all right.past h right.lasts) w.hosts r.1.right;
+      witnessed = right-witnessed m w r.1;
+      chosen = r.1.certified;
+    }
+
+-- the beginning
+
 -- at first none is faulty
 none_faulty : (view : View) → too_many view [] ≡ false
 none_faulty view = ap (λ (k : ℕ). nat_lt view.f k) (none_pass view.members) ∙ le-ltb view.f 0 (omega arith)
@@ -670,7 +713,7 @@ chosen-begun m g is = (
   (grounded-begun m g is, record { each = tt }),
   record {
     right = hosts_right m g.view g.period g.view.members;
-    ids = hosts_ids m g.view g.period g.view.members;
+    ids = subst (AreNames g.view) (sym (hosts_ids m g.view g.period g.view.members)) (names_first g.view is.viewed);
     viewed = is.viewed;
     period_fits = is.period_fits;
     certified = tt;

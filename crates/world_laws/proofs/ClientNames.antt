@@ -68,6 +68,7 @@ keeps-numbers course all =
         meet = λ w texts on is. is;
       };
       resume = λ w i h down at is. is;
+      add = λ w i member on new is. is;
     }
 
 -- clients begin with the numbers

@@ -1,6 +1,6 @@
 -- The play of cores, which keep no more than they need, is the play of the nodes that keep all.
 use Rattle.std.proofs.Common.{◌≡◌, ℕ, zero, suc, ◌+◌, ◌^◌, ◌++◌, Bool, true, false, List, [], ◌∷◌, length, map, refl, ap, sym, ◌∙◌, cond, Option, Some, None, is_some, nat_lt, nat_le, ◌&&◌, ◌||◌, ◌==◌, ◌-◌, not}
-use Rattle.std.specs.Prelude.{slice_get, slice_set, option_map}
+use Rattle.std.specs.Prelude.{slice_get, slice_set, option_map, insert, filter}
 use Rattle.std.specs.List.{flat_map, list_all, position_or_len}
 use Rattle.smart_base.specs.Views.{View}
 use Rattle.smart_messages.specs.Messages.{decoded}
@@ -31,7 +31,7 @@ use Rattle.node_laws.proofs.Reopened.{reopened_is}
 use Rattle.world_rules.specs.Repeats.{repeated, turns, until_rest, each_from}
 use Rattle.world_rules.specs.Secrets.{group_secret}
 use Rattle.world_rules.specs.Premises.{texts_in, collides, texts_met, too_many, is_forged, bytes_of}
-use Rattle.world_rules.specs.Worlds.{Host, World, course_of, core_course, is_up, at_host, telling, host_crashed, crashes_with, host_crashes, crashes, crash_all, parts_held, host_resumed, resumes_from, host_resumes, resumes, restart_all, restart_at, restart_member, sends_all, told_drop, told_fired, chosen_with, host_after, stepped, host_takes, node_takes, disk_called, hears_firm, host_calls, calls_disk, takes_due, host_of_node, settle_once, settle, settle_all, gives, hearing, client_hears, hears_bytes, client_takes, client_asks, ask_found, asks, client_repeats, repeat_found, repeats, learns, learns_from, tells, goes, flow_sent, flow_once, flows, hosts_from, begun, is_listed, where_listed, at_listed, each_listed, host_index, at_index, at_member, arrives, arrives_at, sent_arrives, give_number, told_idle, telling_all, host_tries, tries_at, tries_each, give_one, shown_host, shown_client, shows, posts, is_gone, is_rogue, settle_present, declares_faulty, declares_rogue, injects_content, injects, is_halted, reaches, outset_of, meets, snapshot_in, steps_unless, takes_met}
+use Rattle.world_rules.specs.Worlds.{Host, World, course_of, core_course, is_up, at_host, telling, host_crashed, crashes_with, host_crashes, crashes, crash_all, parts_held, host_resumed, resumes_from, host_resumes, resumes, restart_all, restart_at, restart_member, sends_all, told_drop, told_fired, chosen_with, host_after, stepped, host_takes, node_takes, disk_called, hears_firm, host_calls, calls_disk, takes_due, host_of_node, settle_once, settle, settle_all, gives, hearing, client_hears, hears_bytes, client_takes, client_asks, ask_found, asks, client_repeats, repeat_found, repeats, learns, learns_from, tells, goes, flow_sent, flow_once, flows, hosts_from, begun, is_listed, where_listed, at_listed, each_listed, host_index, at_index, at_member, arrives, arrives_at, sent_arrives, give_number, told_idle, telling_all, host_tries, tries_at, tries_each, give_one, shown_host, shown_client, shows, posts, is_gone, is_rogue, settle_present, declares_faulty, declares_rogue, injects_content, injects, is_halted, reaches, outset_of, meets, snapshot_in, steps_unless, takes_met, adds_node, adds_unless, hosts_below, is_name, new_host, with_new}
 use Rattle.node_rules.specs.Transfers.{completed_by}
 use Rattle.world_rules.specs.Plays.{has_member, has_party, is_there, line_played, rested, world_after, lines_told}
 use Rattle.client_quorum.specs.declared.client.Client.{Client}
@@ -52,6 +52,7 @@ use Rattle.client_quorum.specs.Clients.{reply_read}
 use Rattle.smart_statements.specs.Forms.{SignedBy}
 use Rattle.smart_statements.specs.declared.statement.Answer.{Answer}
 use Rattle.world_rules.specs.declared.line.Header.{Header}
+use Rattle.world_laws.proofs.Names.{map_insert}
 
 -- lists, choices and repeated steps
 
@@ -617,6 +618,41 @@ injects_same : {S : Type 0} (form : Injection) (w : World S) → injects form (t
 unfolding injects trimmed_world
 injects_same form w = choice_same trimmed_world (is_halted w) _ _ _ _ refl (injects_content_same w (injected w.sent form))
 
+-- new nodes
+
+-- a new node keeps nothing that could be dropped
+opened_same : {S : Type 0} (m : Meaning S) (view : View) (period id : ℕ) → trimmed_host (host_of_node (opened (outset_of m view period id))) ≡ host_of_node (opened (outset_of m view period id))
+unfolding trimmed_host
+opened_same m view period id = ap (λ n. record (host_of_node (opened (outset_of m view period id))) { node = n }) (sym (opened_stands (outset_of m view period id)).same)
+
+below_same : {S : Type 0} (hosts : List (Host S)) (member : ℕ) → hosts_below (map trimmed_host hosts) member ≡ hosts_below hosts member
+unfolding trimmed_host trimmed
+below_same [] member = refl
+below_same {S = S} (h ∷ hs) member =
+    by (nat_lt h.node.id member) (filter (λ (g : Host S). nat_lt g.node.id member) (map trimmed_host hs)) (filter (λ (g : Host S). nat_lt g.node.id member) hs) (below_same hs member)
+  where
+    by : (t : Bool) (xs ys : List (Host S)) → length xs ≡ length ys → length (cond t (trimmed_host h ∷ xs) xs) ≡ length (cond t (h ∷ ys) ys)
+    by true xs ys same = ap suc same
+    by false xs ys same = same
+
+new_same : {S : Type 0} (hosts : List (Host S)) (h : Host S) → trimmed_host h ≡ h → with_new (map trimmed_host hosts) h ≡ map trimmed_host (with_new hosts h)
+new_same {S = S} hosts h same =
+    ap (λ (k : ℕ). insert (map trimmed_host hosts) k h) (below_same hosts h.node.id)
+    ∙ (ap (λ (x : Host S). insert (map trimmed_host hosts) (hosts_below hosts h.node.id) x) (sym same) ∙ sym (map_insert trimmed_host hosts (hosts_below hosts h.node.id) h))
+
+adds_unless_same : {S : Type 0} (m : Meaning S) (member : ℕ) (w : World S) (found : Option ℕ) → adds_unless (core_course m) member (trimmed_world w) found ≡ trimmed_world (adds_unless (course_of m) member w found)
+unfolding trimmed_world
+adds_unless_same m member w (Some i) = refl
+adds_unless_same {S = S} m member w None =
+    choice_same trimmed_world (is_name member) _ _ _ _
+    (ap (λ (hosts : List (Host S)). record (trimmed_world w) { hosts = hosts }) (new_same w.hosts (new_host m w member) (opened_same m w.view w.period member))) refl
+
+adds_node_same : {S : Type 0} (m : Meaning S) (member : ℕ) (w : World S) → adds_node (core_course m) member (trimmed_world w) ≡ trimmed_world (adds_node (course_of m) member w)
+unfolding adds_node trimmed_world
+adds_node_same m member w =
+    choice_same trimmed_world (is_halted w) _ _ _ _ refl
+    (ap (λ found. adds_unless (core_course m) member (trimmed_world w) found) (host_index_same w.hosts member) ∙ adds_unless_same m member w (host_index w.hosts member))
+
 -- lines
 
 -- a line of a script
@@ -640,6 +676,7 @@ core_line m w (lines.Restart member) = restart_member_same m member w
 core_line m w lines.RestartAll = restart_all_same m w
 core_line m w lines.SettleAll = settle_all_same m [] w
 core_line m w lines.Show = shows_same w
+core_line m w (lines.Node member) = adds_node_same m member w
 core_line m w (lines.Faulty member) = declares_faulty_same member w
 core_line m w (lines.Rogue client) = declares_rogue_same client w
 core_line m w (lines.Inject form) = injects_same form w
@@ -677,6 +714,7 @@ there_same w (lines.Restart member) = has_member_same w member
 there_same w lines.RestartAll = refl
 there_same w lines.SettleAll = refl
 there_same w lines.Show = refl
+there_same w (lines.Node member) = ap (λ t. not t) (has_member_same w member)
 there_same w (lines.Faulty member) = has_member_same w member
 there_same w (lines.Rogue client) = refl
 there_same w (lines.Inject form) = refl

@@ -1,5 +1,5 @@
 -- Faulty and rogue are those that lines declare.
-use Rattle.std.proofs.Common.{◌≡◌, ℕ, ◌++◌, true, false, List, [], ◌∷◌, refl, sym, Option, Some, None, is_some, inl, inr, ◌⊎◌, subst, append-nil, append_assoc, take}
+use Rattle.std.proofs.Common.{◌∙◌, ◌≡◌, ℕ, ◌++◌, true, false, List, [], ◌∷◌, refl, sym, Option, Some, None, is_some, inl, inr, ◌⊎◌, subst, append-nil, append_assoc, take}
 use Rattle.node_rules.specs.Nodes.{view_of}
 use Rattle.std.specs.List.{flat_map}
 use Rattle.smart_statements.specs.Forms.{SignedBy}
@@ -11,7 +11,7 @@ use Rattle.client_quorum.specs.declared.client.Client.{Client}
 use Rattle.client_quorum.specs.declared.client.Heard.{Heard}
 use Rattle.world_rules.specs.Clients.{heard}
 use Rattle.world_rules.specs.Premises.{is_among, too_many}
-use Rattle.world_rules.specs.Worlds.{Course, course_of, Host, World, posts, snapshot_in, stepped, hearing, is_gone, is_rogue, declares_faulty, declares_rogue, begun, is_halted}
+use Rattle.world_rules.specs.Worlds.{Course, course_of, Host, World, posts, snapshot_in, stepped, hearing, is_gone, is_rogue, declares_faulty, declares_rogue, begun, is_halted, adds_unless, adds_node, host_index, is_name, new_host, with_new}
 use Rattle.world_rules.specs.Plays.{line_played, rested, world_after}
 use Rattle.world_rules.specs.declared.line.Line.{Line}
 use Rattle.world_rules.specs.declared.line.Line.TheVariants as lines
@@ -102,7 +102,7 @@ RogueIs played w = AreDeclared (λ client. lines.Rogue client) played w.ending w
 abbrev Declared : {S : Type 0} → List Line → World S → Type 0
 Declared played w = FaultyIs played w × RogueIs played w
 
--- lines that declare nobody
+-- lines that declare nobody and add no node
 
 -- who is faulty and who is rogue stays, and what has ended stays so
 record Stays {S : Type 0} (faulty rogue : List ℕ) (ending : Option Ending) (w : World S) : Type 0 where
@@ -208,11 +208,38 @@ declared-rogue {S = S} played w client is =
     (λ on. either_by (λ (v : World S). Declared more v) (is_rogue w client) w _ (λ known. (other, declared-again (λ id. lines.Rogue id) one_rogue played client w.ending w.rogue known is.1))
     (λ fresh. (other, declared-new (λ id. lines.Rogue id) one_rogue played client w.ending w.rogue is.1)))
 
+-- a line that adds a node
+apart_node : (a b : ℕ) → lines.Faulty a ≡ lines.Node b → ⊥
+apart_node a b same = cc
+
+apart_rogue : (a b : ℕ) → lines.Rogue a ≡ lines.Node b → ⊥
+apart_rogue a b same = cc
+
+declared-node : {S : Type 0} (course : Course S) (played : List Line) (w : World S) (member : ℕ) → Declared played w → Declared (played ++ lines.Node member ∷ []) (adds_node course member w)
+unfolding adds_node
+declared-node {S = S} course played w member is =
+    let more : List Line = played ++ lines.Node member ∷ [] in
+    let same : (v : World S) → v.faulty ≡ w.faulty → v.rogue ≡ w.rogue → v.ending ≡ w.ending → Declared more v =
+    λ v faulty rogue ending. (
+      subst (λ (ids : List ℕ). AreDeclared (λ id. lines.Faulty id) more v.ending ids) (sym faulty)
+          (declared-same (λ id. lines.Faulty id) played (lines.Node member) w.ending v.ending w.faulty (λ id one. apart_node id member one) (λ on. sym ending ∙ on) is.0),
+      subst (λ (ids : List ℕ). AreDeclared (λ id. lines.Rogue id) more v.ending ids) (sym rogue)
+          (declared-same (λ id. lines.Rogue id) played (lines.Node member) w.ending v.ending w.rogue (λ id one. apart_rogue id member one) (λ on. sym ending ∙ on) is.1),
+    ) in
+    either (λ (v : World S). Declared more v) (is_halted w) w _ (same w refl refl refl) (unless (host_index w.hosts member) same)
+  where
+    unless : (found : Option ℕ) → ((v : World S) → v.faulty ≡ w.faulty → v.rogue ≡ w.rogue → v.ending ≡ w.ending → Declared (played ++ lines.Node member ∷ []) v)
+        → Declared (played ++ lines.Node member ∷ []) (adds_unless course member w found)
+    unless (Some i) same = same w refl refl refl
+    unless None same = either (λ (v : World S). Declared (played ++ lines.Node member ∷ []) v) (is_name member) _ w
+        (same (record w { hosts = with_new w.hosts (new_host course.meaning w member) }) refl refl refl) (same w refl refl refl)
+
 -- each line
 declared-line : {S : Type 0} (course : Course S) (played : List Line) (w : World S) (line : Line) → Declared played w → Declared (played ++ line ∷ []) (line_played course w line)
 unfolding line_played
 declared-line course played w (lines.Faulty member) is = declared-faulty played w member is
 declared-line course played w (lines.Rogue client) is = declared-rogue played w client is
+declared-line course played w (lines.Node member) is = declared-node course played w member is
 declared-line course played w line is = declared-calm course played w line tt is
 
 -- all lines

@@ -23,7 +23,7 @@ use Rattle.node_rules.specs.Steps.{Outcome, step_of, takes_in, leaving}
 use Rattle.node_rules.specs.declared.node.Held.{Held}
 use Rattle.client_quorum.specs.Clients.{request_of, asking, learning, after_heard, reply_read}
 use Rattle.world_rules.specs.Clients.{heard}
-use Rattle.world_rules.specs.Worlds.{course_of, store_after, Host, Life, World, host_crashed, host_resumed, posts, sends_all, host_after, stepped, hearing, hosts_from, clients_from, begun}
+use Rattle.world_rules.specs.Worlds.{course_of, store_after, Host, Life, World, host_crashed, host_resumed, posts, sends_all, host_after, stepped, hearing, hosts_from, clients_from, begun, new_host}
 use Rattle.client_quorum.specs.declared.client.Client.{Client}
 use Rattle.client_quorum.specs.declared.client.Heard.{Heard}
 use Rattle.client_quorum.specs.declared.client.Heard.TheVariants as hears
@@ -32,8 +32,8 @@ use Rattle.world_rules.specs.declared.message.Origin.TheVariants as origins
 use Rattle.world_rules.specs.declared.message.Sent.{Sent}
 use Rattle.replica_laws.specs.Sending.{orders}
 use Rattle.world_laws.specs.Sending.{AllGenuine, IsReadIfShort, IsHeardAs, IsReadAs, IsGenuineContent, IsGenuineFrom}
-use Rattle.world_laws.proofs.Lists.{each_set, each_get}
-use Rattle.world_laws.proofs.Keeps.{with_host, node_resumed, after_call, MayCome, read_whole, read_fits, long_unread, ask_of, asked_by, KeepsBut, by-posts, ReadsSent, signed_by, OwnWaits, from_node, from_client, HasContent, IsRead, read_has, from_script}
+use Rattle.world_laws.proofs.Lists.{each_set, each_get, each_insert}
+use Rattle.world_laws.proofs.Keeps.{with_host, node_resumed, after_call, MayCome, read_whole, read_fits, long_unread, ask_of, asked_by, KeepsBut, by-posts, ReadsSent, signed_by, OwnWaits, from_node, from_client, HasContent, IsRead, read_has, from_script, IsNew, added}
 use Rattle.smart_statements.specs.Kinds.{requests, proposals, ballots, answers}
 use Rattle.smart_statements.specs.Statements.{request_small}
 use Rattle.replica_rules.specs.Seals.{signed}
@@ -330,6 +330,16 @@ pub fit-begun : {S : Type 0} (m : Meaning S) (g : Header) → IsHeader g → All
 fit-begun m g is =
     let parts = view_parts g.view is.viewed in
     record { hosts = hosts_fit m g.view g.period g.view.members is.viewed is.period_fits (ascending 0 g.view.members parts.1); clients = clients_fit 1025 0 (omega arith); sent = tt; tagged = tt }
+
+-- a new node is added
+pub fit-added : {S : Type 0} (m : Meaning S) (w : World S) (i member : ℕ) → is_view w.view ≡ true → w.period < 2 ^ 32 → IsNew w member → AllFit m w → AllFit m (added (course_of m) w i member)
+fit-added m w i member viewed low new is = record {
+  hosts = each_insert (FitHost m) w.hosts i (new_host m w member) is.hosts
+      (hosts_fit m w.view w.period (member ∷ []) viewed low ((omega (arith, new.low), omega (arith, new.high)), tt)).0;
+  clients = is.clients;
+  sent = is.sent;
+  tagged = is.tagged;
+}
 
 -- what is read
 

@@ -3,7 +3,7 @@ use Rattle.std.proofs.Common.{◌≡◌, ℕ, ◌^◌, ◌<◌, ◌++◌, ◌==�
 use Rattle.std.specs.Prelude.{option_map, slice_get, IfSome}
 use Rattle.std.specs.List.{list_any, filter_map, flat_map}
 use Rattle.smart_base.specs.Lists.{Each}
-use Rattle.smart_base.specs.Views.{View}
+use Rattle.smart_base.specs.Views.{View, is_view}
 use Rattle.smart_statements.specs.Forms.{SignedBy}
 use Rattle.smart_statements.specs.Batches.{Batch}
 use Rattle.smart_statements.specs.declared.statement.VoteKind.TheVariants.{Write}
@@ -38,7 +38,7 @@ use Rattle.replica_laws.proofs.FitNodes.{FitsSnapshot, Settles}
 use Rattle.world_laws.proofs.Snapshots.{AreRestorable}
 use Rattle.node_rules.specs.declared.node.Target.TheVariants as targets
 use Rattle.world_rules.specs.Premises.{batches_met, batches}
-use Rattle.world_rules.specs.Worlds.{course_of, store_after, Host, World, host_crashed, host_resumed, posts, snapshot_in, chosen_with, host_after, stepped, hearing, hosts_from, begun}
+use Rattle.world_rules.specs.Worlds.{course_of, store_after, Host, World, host_crashed, host_resumed, posts, snapshot_in, chosen_with, host_after, stepped, hearing, hosts_from, begun, new_host}
 use Rattle.world_rules.specs.declared.message.Sent.{Sent}
 use Rattle.world_rules.specs.declared.message.Content.{Content}
 use Rattle.node_laws.proofs.Lists.{guard, each_filter_map_in}
@@ -46,12 +46,12 @@ use Rattle.node_laws.proofs.Voting.{proposed_is, votable_is}
 use Rattle.node_laws.proofs.Deciding.{due_is, accept_for_is, FromShown, FromVotes}
 use Rattle.replica_laws.proofs.Once.{entries_adopted}
 use Rattle.node_rules.proofs.Rulewise.{KeptByRules, keeps_step, ForRead, ForEvent}
-use Rattle.world_laws.proofs.Lists.{each_set, each_get}
+use Rattle.world_laws.proofs.Lists.{each_set, each_get, each_insert}
 use Rattle.agreement_laws.specs.Lists.{Exact}
 use Rattle.replica_rules.specs.Seals.{digest_of}
-use Rattle.world_laws.proofs.Keeps.{with_host, node_resumed, after_call, HasMessage, ask_of, asked_by, KeepsBut, MayCome, by-posts, ReadsSent, MayRead, may_read, signed_by, from_node, from_client, comes-as, keeps-sends_all, from_script}
+use Rattle.world_laws.proofs.Keeps.{with_host, node_resumed, after_call, HasMessage, ask_of, asked_by, KeepsBut, MayCome, by-posts, ReadsSent, MayRead, may_read, signed_by, from_node, from_client, comes-as, keeps-sends_all, from_script, IsNew, added}
 use Rattle.replica_laws.proofs.Small.{IsBrief}
-use Rattle.world_laws.proofs.Fitting.{AllFit, keeps-fit, fit-event, fit-reads, fit-resumes, fit-begun}
+use Rattle.world_laws.proofs.Fitting.{AllFit, keeps-fit, fit-event, fit-reads, fit-resumes, fit-begun, fit-added}
 use Rattle.world_laws.proofs.Lives.{EachLife, life-weaker, life-firm, life-called, life-crashed}
 use Rattle.node_rules.specs.Reopening.{reopened}
 use Rattle.node_laws.specs.Restoring.{outset_behind}
@@ -572,3 +572,12 @@ hosts_met M m view period (id ∷ ids) = (record { node = record { arrivals = tt
 pub grounded-begun : {S : Type 0} (m : Meaning S) (g : Header) → IsHeader g → Grounded m (begun m g)
 grounded-begun m g is =
     record { fit = fit-begun m g is; texts = record { same = λ a b ma mb same. absurd ma }; hosts = hosts_met (IsMet []) m g.view g.period g.view.members; chosen = tt }
+
+-- a new node is added
+pub grounded-added : {S : Type 0} (m : Meaning S) (w : World S) (i member : ℕ) → is_view w.view ≡ true → w.period < 2 ^ 32 → IsNew w member → Grounded m w → Grounded m (added (course_of m) w i member)
+grounded-added m w i member viewed low new is = record {
+  fit = fit-added m w i member viewed low new is.fit;
+  texts = is.texts;
+  hosts = each_insert (HostMet (IsMet w.sent)) w.hosts i (new_host m w member) is.hosts (hosts_met (IsMet w.sent) m w.view w.period (member ∷ [])).0;
+  chosen = is.chosen;
+}

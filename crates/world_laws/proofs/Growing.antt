@@ -1,7 +1,7 @@
 -- What was sent, what was accepted and the diaries only grow.
-use Rattle.std.proofs.Common.{◌≡◌, ℕ, zero, suc, ◌≤◌, ◌==◌, Bool, true, false, List, [], ◌∷◌, length, refl, sym, cond, Some, subst, take}
+use Rattle.std.proofs.Common.{◌≡◌, ℕ, zero, suc, ◌≤◌, ◌==◌, Bool, true, false, List, [], ◌∷◌, length, refl, sym, cond, Some, subst, take, ap, ◌∙◌, Option, None, is_some, eqb-true}
 use Rattle.node_rules.specs.Nodes.{view_of}
-use Rattle.std.specs.Prelude.{slice_get, slice_set}
+use Rattle.std.specs.Prelude.{slice_get, slice_set, insert}
 use Rattle.smart_statements.specs.Forms.{SignedBy}
 use Rattle.smart_statements.specs.declared.statement.Answer.{Answer}
 use Rattle.smart_statements.specs.declared.entry.NodeEvent.{NodeEvent}
@@ -14,17 +14,20 @@ use Rattle.client_quorum.specs.declared.client.Heard.{Heard}
 use Rattle.world_rules.specs.Clients.{heard}
 use Rattle.world_rules.specs.Secrets.{group_secret}
 use Rattle.world_rules.specs.Stated.{diary_of, diary}
-use Rattle.world_rules.specs.Worlds.{Course, course_of, Host, World, host_of, posts, stepped, host_after, host_crashed, host_resumed, acceptance_in, hearing, parts_held}
+use Rattle.world_rules.specs.Worlds.{Course, course_of, Host, World, host_of, posts, stepped, host_after, host_crashed, host_resumed, acceptance_in, hearing, parts_held, new_host}
 use Rattle.world_rules.specs.declared.line.Line.{Line}
 use Rattle.world_rules.specs.declared.message.Sent.{Sent}
 use Rattle.world_laws.specs.Promises.{world_at}
-use Rattle.world_laws.proofs.Keeps.{ask_of, asked_by, by-posts, KeepsAll, keeps-world_after, signed_by, after_call, node_resumed, from_node, from_client, from_script, keeps-sends_all}
+use Rattle.world_laws.proofs.Keeps.{ask_of, asked_by, by-posts, KeepsAll, keeps-world_after, signed_by, after_call, node_resumed, from_node, from_client, from_script, keeps-sends_all, IsNew, added}
 use Rattle.world_laws.proofs.Fronts.{front-same, front-append}
 use Rattle.world_laws.proofs.Reopens.{from_named}
 use Rattle.world_laws.proofs.Past.{world-more}
 use Rattle.replica_laws.proofs.Follows.{follows-step}
 use Rattle.agreement_laws.proofs.Lists.{some_equal}
 use Rattle.world_rules.specs.declared.line.Header.{Header}
+use Rattle.world_laws.proofs.Names.{names, none_named}
+use Rattle.std.specs.List.{list_any}
+use Rattle.std.proofs.lemmas.Bool.{or_parts}
 
 -- what was sent and what was accepted
 
@@ -65,6 +68,7 @@ keeps-grown course sent accepted =
         meet = λ w texts on is. record { has_sent = is.has_sent; has_accepted = is.has_accepted };
       };
       resume = λ w i h down at is. record { has_sent = is.has_sent; has_accepted = is.has_accepted };
+      add = λ w i member on new is. record { has_sent = is.has_sent; has_accepted = is.has_accepted };
     }
 
 grown-at : {S : Type 0} (m : Meaning S) (g : Header) (ls : List Line) (j k : ℕ) → j ≤ k → Grown (world_at m g ls j).sent (world_at m g ls j).accepted (world_at m g ls k)
@@ -127,6 +131,41 @@ begins-hearing : {S : Type 0} (front : List LogEntry) (member : ℕ) (w : World 
 unfolding hearing
 begins-hearing front member w i c a h is = is
 
+-- a new node's member has nothing firm, as it had before
+
+host_none : {S : Type 0} (hosts : List (Host S)) (member : ℕ) → list_any (λ k. k == member) (names hosts) ≡ false → host_of hosts member ≡ None
+host_none [] member none = refl
+host_none {S = S} (g ∷ hs) member none =
+    let parts = or_parts (g.node.id == member) (list_any (λ k. k == member) (names hs)) none in
+    ap (λ (t : Bool). cond t (Some g) (host_of hs member)) parts.0 ∙ host_none hs member parts.1
+
+own_insert : {S : Type 0} (hosts : List (Host S)) (i : ℕ) (h : Host S) (member : ℕ) → (h.node.id == member) ≡ true → list_any (λ k. k == member) (names hosts) ≡ false → host_of (insert hosts i h) member ≡ Some h
+own_insert hosts zero h member own none = ap (λ (t : Bool). cond t (Some h) (host_of hosts member)) own
+own_insert [] (suc i) h member own none = ap (λ (t : Bool). cond t (Some h) None) own
+own_insert {S = S} (g ∷ hs) (suc i) h member own none =
+    let parts = or_parts (g.node.id == member) (list_any (λ k. k == member) (names hs)) none in
+    ap (λ (t : Bool). cond t (Some g) (host_of (insert hs i h) member)) parts.0 ∙ own_insert hs i h member own parts.1
+
+other_insert : {S : Type 0} (hosts : List (Host S)) (i : ℕ) (h : Host S) (member : ℕ) → (h.node.id == member) ≡ false → host_of (insert hosts i h) member ≡ host_of hosts member
+other_insert hosts zero h member other = ap (λ (t : Bool). cond t (Some h) (host_of hosts member)) other
+other_insert [] (suc i) h member other = ap (λ (t : Bool). cond t (Some h) None) other
+other_insert {S = S} (g ∷ hs) (suc i) h member other = ap (λ (found : Option (Host S)). cond (g.node.id == member) (Some g) found) (other_insert hs i h member other)
+
+diary_insert : {S : Type 0} (hosts : List (Host S)) (i : ℕ) (h : Host S) (member : ℕ) → h.life.diary ≡ [] → list_any (λ k. k == h.node.id) (names hosts) ≡ false
+    → diary_of (host_of (insert hosts i h) member) ≡ diary_of (host_of hosts member)
+diary_insert {S = S} hosts i h member empty none = by (h.node.id == member) refl
+  where
+    by : (t : Bool) → (h.node.id == member) ≡ t → diary_of (host_of (insert hosts i h) member) ≡ diary_of (host_of hosts member)
+    by true own =
+        let here : list_any (λ k. k == member) (names hosts) ≡ false = subst (λ (id : ℕ). list_any (λ k. k == id) (names hosts) ≡ false) (eqb-true h.node.id member own) none in
+        ap (λ (found : Option (Host S)). diary_of found) (own_insert hosts i h member own here) ∙ (empty ∙ sym (ap (λ (found : Option (Host S)). diary_of found) (host_none hosts member here)))
+    by false other = ap (λ (found : Option (Host S)). diary_of found) (other_insert hosts i h member other)
+
+begins-added : {S : Type 0} (m : Meaning S) (front : List LogEntry) (member : ℕ) (w : World S) (i new : ℕ) → IsNew w new → Begins front member w.hosts → Begins front member (added (course_of m) w i new).hosts
+begins-added m front member w i new is begins =
+    subst (λ (es : List LogEntry). take (length front) es ≡ front)
+    (sym (diary_insert w.hosts i (new_host m w new) member refl (none_named w.hosts new (ap (λ (found : Option ℕ). is_some found) is.none)))) begins
+
 -- each event keeps what a diary began with
 keeps-diary : {S : Type 0} (m : Meaning S) (front : List LogEntry) (member : ℕ) → KeepsAll (course_of m) (λ w. Begins front member w.hosts)
 keeps-diary m front member =
@@ -146,6 +185,7 @@ keeps-diary m front member =
       };
       resume = λ w i h down at is. diary-set front member w.hosts i h (host_resumed h (node_resumed (course_of m) w h)) at
           (from_named m group_secret h.node.id w.view w.period (parts_held h)) (λ own. own) is;
+      add = λ w i new on is begins. begins-added m front member w i new is begins;
     }
 
 -- of two fronts of a script, a member's diary after the shorter is a front of its diary after the longer

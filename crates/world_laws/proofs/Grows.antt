@@ -82,6 +82,7 @@ front-kept course front =
         meet = λ w texts on is. is;
       };
       resume = λ w i h down at is. is;
+      add = λ w i member on new is. is;
     }
 
 -- each event keeps the header
@@ -102,6 +103,7 @@ header-kept course g =
         meet = λ w texts on is. is;
       };
       resume = λ w i h down at is. is;
+      add = λ w i member on new is. is;
     }
 
 -- lines

@@ -1,7 +1,7 @@
 -- What each event of a world keeps, the lines of a script keep.
 use Rattle.std.proofs.Common.{◌≡◌, not, ℕ, zero, suc, ◌+◌, ◌^◌, ◌<◌, ◌≤◌, ◌++◌, ◌∙◌, ◌&&◌, ◌||◌, ◌==◌, arith, Bool, true, false, List, [], ◌∷◌, length, refl, ap, cond, Option, Some, None, is_some, nat_lt, nat_le, inl, inr, ◌⊎◌, subst, Result, Ok, Err, ◌-◌, sym, append-nil, append_assoc, take, drop, eqb-true}
 use Rattle.std.proofs.lemmas.Bool.{ltb-true, leb-true, leb-false, or_parts}
-use Rattle.std.specs.Prelude.{slice_get, slice_set, get_or}
+use Rattle.std.specs.Prelude.{slice_get, slice_set, insert, get_or}
 use Rattle.std.specs.Option.{option_and_then}
 use Rattle.std.proofs.lemmas.List.{length-drop}
 use Rattle.smart_base.specs.Cuts.{IsBytes, Cut, whole, limited}
@@ -35,7 +35,7 @@ use Rattle.world_rules.specs.Premises.{is_among, too_many, is_forged, texts_in, 
 use Rattle.world_rules.specs.Injections.{content_by, content_of, are_bytes, content_from, injected_bytes, injected}
 use Rattle.client_quorum.specs.Clients.{request_of, asking, learning, reply_read}
 use Rattle.world_rules.specs.Clients.{heard}
-use Rattle.world_rules.specs.Worlds.{Course, Host, World, is_up, remembered, life_called, switching_after, store_after, parts_held, host_crashed, crashes_with, host_crashes, crashes, host_resumed, resumes_from, host_resumes, resumes, restart_at, at_host, summary, telling, posts, sends_all, told_drop, told_fired, host_after, chosen_with, stepped, is_gone, is_rogue, host_takes, node_takes, disk_called, hears_firm, host_calls, calls_disk, takes_due, settle_once, settle, told_absent, settle_present, settle_all, gives, hearing, client_hears, hears_bytes, client_takes, client_asks, ask_found, asks, client_repeats, repeat_found, repeats, learns, learns_from, tells, goes, flow_sent, flow_once, is_listed, where_listed, at_listed, each_listed, host_index, at_index, at_member, arrives, arrives_at, sent_arrives, give_number, told_idle, telling_all, host_tries, tries_at, tries_each, give_one, shown_host, shown_client, shows, declares_faulty, declares_rogue, injects_content, injects, is_halted, heard_by, reaches, meets, snapshot_in, takes_met}
+use Rattle.world_rules.specs.Worlds.{Course, Host, World, is_up, remembered, life_called, switching_after, store_after, parts_held, host_crashed, crashes_with, host_crashes, crashes, host_resumed, resumes_from, host_resumes, resumes, restart_at, at_host, summary, telling, posts, sends_all, told_drop, told_fired, host_after, chosen_with, stepped, is_gone, is_rogue, new_host, adds_unless, adds_node, is_name, hosts_below, host_takes, node_takes, disk_called, hears_firm, host_calls, calls_disk, takes_due, settle_once, settle, told_absent, settle_present, settle_all, gives, hearing, client_hears, hears_bytes, client_takes, client_asks, ask_found, asks, client_repeats, repeat_found, repeats, learns, learns_from, tells, goes, flow_sent, flow_once, is_listed, where_listed, at_listed, each_listed, host_index, at_index, at_member, arrives, arrives_at, sent_arrives, give_number, told_idle, telling_all, host_tries, tries_at, tries_each, give_one, shown_host, shown_client, shows, declares_faulty, declares_rogue, injects_content, injects, is_halted, heard_by, reaches, meets, snapshot_in, takes_met}
 use Rattle.world_rules.specs.Repeats.{repeated}
 use Rattle.store_laws.specs.Stops.{is_installed}
 use Rattle.world_rules.specs.Plays.{line_played, rested, world_after}
@@ -157,6 +157,16 @@ node_resumed course w h = reopened_from course.meaning group_secret h.node.id w.
 -- what it tells
 abbrev pub resumed_line : {S : Type 0} → Course S → World S → Host S → OutLine
 resumed_line course w h = outs.Restarted h.node.id (node_resumed course w h).replica.place (length (entries_left h))
+
+-- a member that has no host, and whose number is one of a member
+pub record IsNew {S : Type 0} (w : World S) (member : ℕ) : Type 0 where
+  pub none : host_index w.hosts member ≡ None
+  pub low : 1 ≤ member
+  pub high : member ≤ 65535
+
+-- the world with the host of a new node of a member at an index
+abbrev pub added : {S : Type 0} → Course S → World S → ℕ → ℕ → World S
+added course w i member = record w { hosts = insert w.hosts i (new_host course.meaning w member) }
 
 -- a host's node runs, or its member has crashed; it is not gone
 abbrev pub IsUp : {S : Type 0} → World S → Host S → Type 0
@@ -308,6 +318,8 @@ pub record KeepsAll {S : Type 0} (course : Course S) (P : World S → Type 0) : 
   pub kept : Keeps course P
   -- a node goes on from what its devices hold
   pub resume : (w : World S) (i : ℕ) (h : Host S) → IsDown w h → slice_get w.hosts i ≡ Some h → P w → P (with_host w i (host_resumed h (node_resumed course w h)))
+  -- a new node is added
+  pub add : (w : World S) (i member : ℕ) → w.ending ≡ None → IsNew w member → P w → P (added course w i member)
 
 -- a fact on worlds that each event of members that run keeps, while nothing has ended the play
 pub record KeepsLive {S : Type 0} (course : Course S) (P : World S → Type 0) : Type 0 where
@@ -348,8 +360,10 @@ pub record KeepsLives {S : Type 0} (course : Course S) (P : World S → Type 0) 
   -- a node goes on from what its devices hold, and tells that
   pub resume : (w : World S) (i : ℕ) (h : Host S) → w.ending ≡ None → IsDown w h → slice_get w.hosts i ≡ Some h → P w
       → P (telling (with_host w i (host_resumed h (node_resumed course w h))) (resumed_line course w h))
+  -- a new node is added
+  pub add : (w : World S) (i member : ℕ) → w.ending ≡ None → IsNew w member → P w → P (added course w i member)
 
--- the same of all that happens but that somebody is declared faulty or rogue
+-- the same of all that happens but that somebody is declared faulty or rogue, or a node is added
 pub record KeepsCalm {S : Type 0} (course : Course S) (P : World S → Type 0) : Type 0 where
   -- the node of a host takes an event
   pub event : (w : World S) (i : ℕ) (h : Host S) (event : NodeEvent) → w.ending ≡ None → IsUp w h → slice_get w.hosts i ≡ Some h → MayTake w h event → P w
@@ -438,6 +452,7 @@ lives course P k =
       live = live course P k.kept;
       crash = λ w i h left on up at may p. k.kept.crash w i h left up at may p;
       resume = λ w i h on down at p. k.kept.same (with_host w i (host_resumed h (node_resumed course w h))) w.mark (w.told ++ resumed_line course w h ∷ []) (k.resume w i h down at p);
+      add = k.add;
     }
 
 -- messages leave
@@ -1049,9 +1064,26 @@ live-restart_at course P k i w None p = p
 live-restart_at course P k i w (Some h) p =
     either P (is_gone w h.node.id) _ _ (k.calm.tell w (outs.Absent h.node.id) tt p) (either P h.up _ _ (k.calm.tell w (outs.Idle h.node.id) tt p) (live-resumes course P k i w p))
 
+-- new nodes
+
+-- a new node is added, unless the member has one or its number is no member's
+live-adds_unless : {S : Type 0} (course : Course S) (P : World S → Type 0) → KeepsLives course P → (member : ℕ) (w : World S) (found : Option ℕ) → w.ending ≡ None → host_index w.hosts member ≡ found → P w
+    → P (adds_unless course member w found)
+live-adds_unless course P k member w (Some i) on at p = p
+live-adds_unless course P k member w None on at p =
+    either_by P (is_name member) _ w
+    (λ named. let both = and_true (nat_le 1 member) (nat_le member 65535) named in
+    k.add w (hosts_below w.hosts member) member on (record { none = at; low = leb-true 1 member both.0; high = leb-true member 65535 both.1 }) p)
+    (λ nameless. p)
+
+live-adds_node : {S : Type 0} (course : Course S) (P : World S → Type 0) → KeepsLives course P → (member : ℕ) (w : World S) → P w → P (adds_node course member w)
+unfolding adds_node
+live-adds_node course P k member w p =
+    either_by P (is_halted w) w _ (λ over. p) (λ on. live-adds_unless course P k member w (host_index w.hosts member) (halted_none w on) refl p)
+
 -- lines
 
--- a line that declares nobody
+-- a line that declares nobody and adds no node
 abbrev pub IsCalm : Line → Type 0
 IsCalm lines.Nothing = Unit {0}
 IsCalm (lines.Ask client op) = Unit {0}
@@ -1069,6 +1101,7 @@ IsCalm (lines.Restart member) = Unit {0}
 IsCalm lines.RestartAll = Unit {0}
 IsCalm lines.SettleAll = Unit {0}
 IsCalm lines.Show = Unit {0}
+IsCalm (lines.Node member) = ⊥
 IsCalm (lines.Faulty member) = ⊥
 IsCalm (lines.Rogue client) = ⊥
 IsCalm (lines.Inject form) = Unit {0}
@@ -1094,6 +1127,7 @@ calm-line_played course P k w (lines.Restart member) is p =
 calm-line_played course P k w lines.RestartAll is p = each_from_keeps P (resumes course) (live-resumes course P k) (length w.hosts) 0 w p
 calm-line_played course P k w lines.SettleAll is p = live-settle_all course P k.calm [] w p
 calm-line_played course P k w lines.Show is p = live-shows course P k.calm w p
+calm-line_played course P k w (lines.Node member) is p = absurd is
 calm-line_played course P k w (lines.Faulty member) is p = absurd is
 calm-line_played course P k w (lines.Rogue client) is p = absurd is
 calm-line_played course P k w (lines.Inject form) is p = live-injects course P k.calm form w p
@@ -1117,6 +1151,7 @@ live-line_played course P k w (lines.Restart member) p = calm-line_played course
 live-line_played course P k w lines.RestartAll p = calm-line_played course P (calm_lives course P k) w lines.RestartAll tt p
 live-line_played course P k w lines.SettleAll p = calm-line_played course P (calm_lives course P k) w lines.SettleAll tt p
 live-line_played course P k w lines.Show p = calm-line_played course P (calm_lives course P k) w lines.Show tt p
+live-line_played course P k w (lines.Node member) p = live-adds_node course P k member w p
 live-line_played course P k w (lines.Faulty member) p = live-declares_faulty course P k.live member w p
 live-line_played course P k w (lines.Rogue client) p = live-declares_rogue course P k.live client w p
 live-line_played course P k w (lines.Inject form) p = calm-line_played course P (calm_lives course P k) w (lines.Inject form) tt p

@@ -1,11 +1,11 @@
 -- Whatever a crash leaves of a member's devices, it goes on from a front of the list, and the places of accepted replies are kept.
-use Rattle.std.proofs.Common.{◌≡◌, inl, inr, ℕ, max, ◌+◌, ◌≤◌, ◌++◌, ◌==◌, ◌&&◌, ◌||◌, ◌∙◌, Bool, true, false, not, cond, List, [], ◌∷◌, length, take, drop, filter, subst, Option, IfSome, refl, ap, sym, arith, eqb-true, add-one, None, Some}
+use Rattle.std.proofs.Common.{◌≡◌, inl, inr, ℕ, max, ◌+◌, ◌≤◌, ◌++◌, ◌==◌, ◌&&◌, ◌||◌, ◌∙◌, Bool, true, false, not, cond, List, [], ◌∷◌, length, take, drop, filter, subst, Option, IfSome, refl, ap, sym, arith, eqb-true, add-one, None, Some, ◌<◌}
 use Rattle.std.proofs.lemmas.Bool.{le-leb}
 use Rattle.std.proofs.lemmas.List.{length-take-le, take-take, take-append-le, take-append-drop}
 use Rattle.std.proofs.Math.Seq.{take-append_seam}
 use Rattle.std.specs.Prelude.{map, option_map, slice_get}
 use Rattle.smart_base.specs.Lists.{Each}
-use Rattle.smart_base.specs.Views.{View, present as present_view}
+use Rattle.smart_base.specs.Views.{View, present as present_view, is_member}
 use Rattle.smart_base.proofs.ViewFacts.{quorum-honest}
 use Rattle.smart_base.specs.declared.party.Party.TheVariants.{Member}
 use Rattle.smart_statements.specs.Forms.{SignedBy}
@@ -68,6 +68,7 @@ use Rattle.world_laws.proofs.Replied.{reply_there}
 use Rattle.agreement_laws.proofs.Lists.{each_take, each_append, either}
 use Rattle.smart_base.proofs.SameLists.{and_true}
 use Rattle.replica_rules.proofs.Places.{state_place, state_views}
+use Rattle.world_laws.proofs.Names.{filter_both}
 
 -- ---- what a crash leaves
 
@@ -320,18 +321,19 @@ honest_replied w a member = has_replied w.faulty w.sent a member && not (is_amon
 
 -- restores the place, whatever is left of its devices
 honest_kept : {S : Type 0} (m : Meaning S) (w : World S) (a : Acceptance) (left : ℕ → Images) (i : ℕ) (h : Host S) → slice_get w.hosts i ≡ Some h → MayBeLeft w left → AreRestorable m w.view w.chosen → ChosenRight m w
-    → honest_replied w a h.node.id ≡ true → has_place m w left a.place h ≡ true
+    → (is_member w.view h.node.id && honest_replied w a h.node.id) ≡ true → has_place m w w.view left a.place h ≡ true
 honest_kept {S = S} m w a left i h at may service r is =
-    let both = and_true (has_replied w.faulty w.sent a h.node.id) (not (is_among w.faulty h.node.id)) is in
+    let parts = and_true (is_member w.view h.node.id) (honest_replied w a h.node.id) is in
+    let both = and_true (has_replied w.faulty w.sent a h.node.id) (not (is_among w.faulty h.node.id)) parts.1 in
     let correct : is_among w.faulty h.node.id ≡ false = not_true (is_among w.faulty h.node.id) both.1 in
     let g : Given w.sent a h.node.id = given_by w.faulty w.sent a h.node.id both.0 in
     let shows : ShowsOwn w.faulty (Replied g.reply) h =
-    each_get (ShowsOwn w.faulty (Replied g.reply)) w.hosts i h (r.1.shown (Replied g.reply) (reply_there w.sent g.reply g.there g.tagged)) at in
+    each_get (ShowsOwn w.faulty (Replied g.reply)) w.hosts i h (r.1.shown (Replied g.reply) (reply_there w.sent g.reply g.there g.tagged)).0 at in
     let reached : HasReached h.life.diary g.reply.statement.place = shows (ap (λ (k : ℕ). Member k) g.signer) correct in
     let here : MayLeave h.store.devices (left h.node.id) = each_get (λ (x : Host S). is_gone w x.node.id ≡ false → MayLeave x.store.devices (left x.node.id)) w.hosts i h may at correct in
     let least = reached_kept m w i h (left h.node.id) g.reply.statement.place at here service r reached in
     let place = g.place in
-    rw (both.1, le-leb a.place (restored_replica m w.view w.period h (left h.node.id)).place (omega (arith, least, place))) refl
+    rw (parts.0, both.1, le-leb a.place (restored_replica m w.view w.period h (left h.node.id)).place (omega (arith, least, place))) refl
   where
     not_true : (b : Bool) → not b ≡ true → b ≡ false
     not_true true is = absurd (cc)
@@ -364,18 +366,23 @@ hosts_pass {S = S} p q (h ∷ hs) each = by (p h.node.id) (q h) each.0 (filter p
     by false true more ps qs le = omega (arith, le)
     by false false more ps qs le = le
 
--- a place at which a quorum has replied is kept
-pub replied_kept : {S : Type 0} (m : Meaning S) (w : World S) (a : Acceptance) → AreRestorable m w.view w.chosen → ChosenRight m w → QuorumReplied w.view w.faulty w.sent a → IsKept m w a.place
-replied_kept {S = S} m w a service r replied =
+-- where a quorum has replied, enough members of the view restore the place
+enough_kept : {S : Type 0} (m : Meaning S) (w : World S) (a : Acceptance) → AreRestorable m w.view w.chosen → ChosenRight m w → QuorumReplied w.view w.faulty w.sent a → (left : ℕ → Images) → MayBeLeft w left
+    → w.view.f < length (filter (has_place m w w.view left a.place) w.hosts)
+enough_kept {S = S} m w a service r replied left may =
     let p : ℕ → Bool = has_replied w.faulty w.sent a in
     let q : ℕ → Bool = is_among w.faulty in
     let few = (few_faulty w.view w.faulty r.1.viewed r.1.few).few in
     let more = quorum-honest w.view r.1.viewed in
     let but = pass_but p q w.view.members in
-    record {
-      enough = λ left may.
-          let pass = hosts_pass (honest_replied w a) (has_place m w left a.place) w.hosts (each_at (λ (h : Host S). honest_replied w a h.node.id ≡ true → has_place m w left a.place h ≡ true) w.hosts (λ i h at. honest_kept m w a left i h at may service r)) in
-          let own : length (filter (honest_replied w a) (map (λ h. h.node.id) w.hosts)) ≡ length (filter (honest_replied w a) w.view.members) =
-          ap (λ (ms : List ℕ). length (filter (honest_replied w a) ms)) r.1.ids in
-          omega (arith, pass, own, but, few, more, replied);
-    }
+    let pass = hosts_pass (λ id. is_member w.view id && honest_replied w a id) (has_place m w w.view left a.place) w.hosts
+    (each_at (λ (h : Host S). (is_member w.view h.node.id && honest_replied w a h.node.id) ≡ true → has_place m w w.view left a.place h ≡ true) w.hosts (λ i h at. honest_kept m w a left i h at may service r)) in
+    let own : length (filter (λ id. is_member w.view id && honest_replied w a id) (map (λ h. h.node.id) w.hosts)) ≡ length (filter (honest_replied w a) w.view.members) =
+    ap (λ (ms : List ℕ). length ms) (sym (filter_both (is_member w.view) (honest_replied w a) (map (λ h. h.node.id) w.hosts)))
+    ∙ ap (λ (ms : List ℕ). length (filter (honest_replied w a) ms)) r.1.ids.members in
+    omega (arith, pass, own, but, few, more, replied)
+
+-- a place at which a quorum has replied is kept
+pub replied_kept : {S : Type 0} (m : Meaning S) (w : World S) (a : Acceptance) → AreRestorable m w.view w.chosen → ChosenRight m w → QuorumReplied w.view w.faulty w.sent a → IsKept m w a.place
+unfolding views_after
+replied_kept m w a service r replied = record { enough = λ left may. enough_kept m w a service r replied left may }

@@ -1,4 +1,5 @@
 pub mod Lists
+pub mod Names
 pub mod Rests
 pub mod Meeting
 pub mod Keeps
@@ -51,8 +52,10 @@ pub mod Delivering
 pub mod Restarting
 pub mod Kept
 pub mod Declared
+pub mod Added
 pub mod ClientNames
 pub mod Growing
 pub mod Teaching
 pub mod Resumed
 pub mod OneListLaw
+pub mod Alone

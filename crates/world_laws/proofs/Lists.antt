@@ -1,9 +1,9 @@
 -- Facts on lists, tests and repeated steps.
-use Rattle.std.proofs.Common.{◌≡◌, ℕ, zero, suc, ◌+◌, List, [], ◌∷◌, Some, subst}
-use Rattle.std.specs.Prelude.{slice_get, slice_set}
+use Rattle.std.proofs.Common.{◌≡◌, ℕ, zero, suc, ◌+◌, List, [], ◌∷◌, Some, subst, take, drop}
+use Rattle.std.specs.Prelude.{insert, slice_get, slice_set}
 use Rattle.smart_base.specs.Lists.{Each}
 use Rattle.world_rules.specs.Repeats.{repeated, turns, until_rest, each_from}
-use Rattle.agreement_laws.proofs.Lists.{some_equal}
+use Rattle.agreement_laws.proofs.Lists.{some_equal, each_append, each_take}
 
 -- what holds of each value of a list
 
@@ -16,6 +16,14 @@ pub each_get : {A : Type 0} (P : A → Type 0) (xs : List A) (i : ℕ) (x : A) �
 each_get P [] i x each at = absurd (cc)
 each_get P (y ∷ xs) zero x each at = subst P (some_equal y x at) each.0
 each_get P (y ∷ xs) (suc i) x each at = each_get P xs i x each.1 at
+
+each_drop : {A : Type 0} (P : A → Type 0) (k : ℕ) (xs : List A) → Each P xs → Each P (drop k xs)
+each_drop P zero xs each = each
+each_drop P (suc k) [] each = tt
+each_drop P (suc k) (x ∷ xs) each = each_drop P k xs each.1
+
+pub each_insert : {A : Type 0} (P : A → Type 0) (xs : List A) (i : ℕ) (x : A) → Each P xs → P x → Each P (insert xs i x)
+each_insert P xs i x each is = each_append P (take i xs) (x ∷ drop i xs) (each_take P i xs each) (is, each_drop P i xs each)
 
 -- what a step keeps, repeated steps keep
 

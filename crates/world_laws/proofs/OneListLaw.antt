@@ -33,7 +33,7 @@ use Rattle.world_laws.proofs.Snapshots.{AreRestorable, IsRestorable}
 use Rattle.world_laws.proofs.Unforged.{member_states}
 use Rattle.world_laws.proofs.Replied.{RightBorne, right-borne-kept, reply_there, Replied, keeps-replied, replied-begun}
 use Rattle.world_laws.proofs.Borne.{borne-begun}
-use Rattle.world_laws.proofs.Chosen.{are_restorable, ChosenRight, right-witnessed}
+use Rattle.world_laws.proofs.Chosen.{are_restorable, ChosenRight, right-witness, right-witnessed}
 use Rattle.world_laws.proofs.ChosenKept.{right-reads, chosen-begun, chosen-aligned, chosen-prefix, witnessed-after}
 use Rattle.world_laws.proofs.Grows.{list-grows, view-stays, period-stays}
 use Rattle.replica_laws.specs.Lines.{HeldRight, ReplyRight}
@@ -43,6 +43,7 @@ use Rattle.world_laws.proofs.Asking.{ClientsRight, right-after}
 use Rattle.world_laws.proofs.Accepted.{AcceptedTold, Telling, executed-right, keeps-told, told-begun, accepted-right}
 use Rattle.replica_laws.specs.Lines.{IsExecuted}
 use Rattle.world_laws.proofs.Told.{lines-answered, lines-tell_all}
+use Rattle.world_laws.proofs.Added.{nodes-added}
 use Rattle.world_laws.proofs.Declared.{faulty-declared, rogue-declared}
 use Rattle.world_laws.proofs.ClientNames.{numbers-after}
 use Rattle.world_laws.proofs.Growing.{sent-grows, accepted-grows, diaries-grow}
@@ -139,11 +140,13 @@ one_list-of : {S : Type 0} (m : Meaning S) → IsRestorable m → (w : World S) 
 one_list-of m service w requests clients numbers is =
     let restorable : AreRestorable m w.view w.chosen = are_restorable m w service is.0.0.0.0.1 in
     record {
-      members = is.0.0.0.0.1.ids;
+      members = is.0.0.0.0.1.ids.members;
+      nodes = is.0.0.0.0.1.ids.once;
       clients = numbers;
       hosts = chosen-prefix m w is.0.0.0.0;
       replied = all_replies_right m w is.0 requests;
       recovers = all_recover m w restorable is.0.0.0.0;
+      witness = right-witness m w is.0.0.0.0.1;
       accepted = accepted-right m w requests clients is.1;
       quorums = record { each = is.0.1.accepted };
       kept = each-weaken (QuorumReplied w.view w.faulty w.sent) (λ (a : Acceptance). IsKept m w a.place) (λ a replied. replied_kept m w a restorable is.0.0.0.0 replied) w.accepted is.0.1.accepted;
@@ -166,6 +169,7 @@ one_list-throughout m brief service g is ls = record {
   one_list = one_list-at m brief service g is ls;
   viewed = λ k. view-stays m (begun m g) (take k ls);
   period = λ k. period-stays m (begun m g) (take k ls);
+  nodes = nodes-added m g ls;
   faulty = faulty-declared m g ls;
   rogue = rogue-declared m g ls;
   grows = list-grows m g ls;

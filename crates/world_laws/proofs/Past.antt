@@ -67,6 +67,7 @@ keeps-sent course q =
         meet = λ w texts on asked. asked;
       };
       resume = λ w i h down at asked. asked;
+      add = λ w i member on new asked. asked;
     }
 
 -- what clients know
@@ -206,6 +207,7 @@ keeps-stating course before known =
       };
       crash = λ w i h left on up at may is. (k.crash w i h left on up at may is.0, record { each = is.1.each; accepted = is.1.accepted });
       resume = λ w i h on down at is. (k.resume w i h on down at is.0, record { each = is.1.each; accepted = is.1.accepted });
+      add = λ w i member on new is. (k.add w i member on new is.0, record { each = is.1.each; accepted = is.1.accepted });
     }
 
 -- between two lines

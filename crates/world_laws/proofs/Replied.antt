@@ -246,6 +246,7 @@ keeps-replied m P right k =
         meet = λ w texts on p. (k.kept.meet w texts on p.0, record { clients = p.1.clients; accepted = p.1.accepted });
       };
       resume = λ w i h down at p. (k.resume w i h down at p.0, record { clients = p.1.clients; accepted = p.1.accepted });
+      add = λ w i member on new p. (k.add w i member on new p.0, record { clients = p.1.clients; accepted = p.1.accepted });
     }
 
 -- the beginning

@@ -15,7 +15,7 @@ use Rattle.node_rules.specs.Reopening.{reopened_from}
 use Rattle.node_rules.specs.declared.node.Held.{Held}
 use Rattle.world_rules.specs.Secrets.{group_secret}
 use Rattle.world_rules.specs.Clients.{heard}
-use Rattle.world_rules.specs.Worlds.{Course, course_of, Host, World, posts, sends_all, chosen_with, host_after, host_crashed, host_resumed, stepped, hearing, hosts_from, begun, parts_held}
+use Rattle.world_rules.specs.Worlds.{Course, course_of, Host, World, posts, sends_all, chosen_with, host_after, host_crashed, host_resumed, stepped, hearing, hosts_from, begun, parts_held, new_host}
 use Rattle.client_quorum.specs.declared.client.Client.{Client}
 use Rattle.client_quorum.specs.declared.client.Heard.{Heard}
 use Rattle.world_rules.specs.declared.message.Origin.{Origin}
@@ -26,7 +26,7 @@ use Rattle.world_rules.specs.declared.message.Sent.{Sent}
 use Rattle.agreement_laws.specs.Statements.{Replied}
 use Rattle.agreement_laws.proofs.Lists.{each_among, either, each_end}
 use Rattle.replica_laws.proofs.Waiting.{each-leaving}
-use Rattle.world_laws.proofs.Lists.{each_set, each_get}
+use Rattle.world_laws.proofs.Lists.{each_set, each_get, each_insert}
 use Rattle.world_laws.proofs.Chosen.{chosen-front}
 use Rattle.world_laws.proofs.Fronts.{front-take, front-batch_at}
 use Rattle.replica_rules.specs.Replicas.{state}
@@ -213,6 +213,10 @@ keeps-replies {S = S} m P k aligned =
         k.resume w i h down at p.0,
         right-host m w i (host_resumed h (node_resumed (course_of m) w h))
             (held-reopened m w.view w.chosen group_secret h.node.id w.view w.period (parts_held h)) p.1,
+      );
+      add = λ w i member on new p. (
+        k.add w i member on new p.0,
+        record { sent = p.1.sent; held = each_insert (λ (g : Host S). HeldRight m w.view w.chosen g.node) w.hosts i (new_host m w member) p.1.held tt },
       );
     }
 

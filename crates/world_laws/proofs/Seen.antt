@@ -194,6 +194,7 @@ keeps-knowing course before count =
       };
       crash = λ w i h left on up at may is. (k.crash w i h left on up at may is.0, record { each = is.1.each; there = is.1.there });
       resume = λ w i h on down at is. (k.resume w i h on down at is.0, record { each = know-beside before w.clients w.told (resumed_line course w h ∷ []) (tt, tt) is.1.each; there = is.1.there });
+      add = λ w i member on new is. (k.add w i member on new is.0, record { each = is.1.each; there = is.1.there });
     }
 
 -- what each client has seen, and how many there are

@@ -150,6 +150,7 @@ keeps-stemming course =
       };
       crash = λ w i h left on up at may is. (k.crash w i h left on up at may is.0, record { all = is.1.all });
       resume = λ w i h on down at is. (k.resume w i h on down at is.0, record { all = each_end (Stems w.accepted) w.told (resumed_line course w h) is.1.all (inl tt) });
+      add = λ w i member on new is. (k.add w i member on new is.0, record { all = is.1.all });
     }
 
 -- between two lines
@@ -191,6 +192,7 @@ keeps-stems course line =
         meet = λ w texts on stems. stems;
       };
       resume = λ w i h down at stems. stems;
+      add = λ w i member on new stems. stems;
     }
 
 -- lines
@@ -369,6 +371,7 @@ keeps-all course before =
       };
       crash = λ w i h left on up at may is. (k.crash w i h left on up at may is.0, record { all = is.1.all });
       resume = λ w i h on down at is. (k.resume w i h on down at is.0, record { all = is.1.all ∙ sym (all-beside before w.told (resumed_line course w h ∷ []) (tt, tt)) });
+      add = λ w i member on new is. (k.add w i member on new is.0, record { all = is.1.all });
     }
 
 -- behind lines all that was accepted is what was before them, and what they tell of

@@ -159,6 +159,7 @@ keeps-unforged course =
         meet = λ w texts on is. record { each = is.each };
       };
       resume = λ w i h down at is. record { each = is.each };
+      add = λ w i member on new is. record { each = is.each };
     }
 
 -- what has been stated

@@ -2,7 +2,7 @@
 use Rattle.std.proofs.Common.{◌≡◌, ⊎_elim, ◌⊎◌, ℕ, zero, suc, ◌+◌, ◌*◌, ◌^◌, ◌<◌, ◌≤◌, arith, ◌==◌, ◌&&◌, ◌||◌, Bool, true, false, List, [], ◌∷◌, ◌++◌, take, length, filter, refl, ap, sym, ◌∙◌, subst, inl, inr, Option, Some, eqb-true, eq-eqb, nat_le, append-nil, drop, append_assoc, length-append}
 use Rattle.std.proofs.lemmas.Bool.{ltb-false, leb-true, or_parts}
 use Rattle.std.proofs.lemmas.Grind.{flat_map-append}
-use Rattle.std.specs.Prelude.{map, slice_get, slice_set}
+use Rattle.std.specs.Prelude.{insert, map, slice_get, slice_set}
 use Rattle.std.specs.List.{list_any, flat_map}
 use Rattle.smart_base.specs.Lists.{Each, Distinct}
 use Rattle.smart_base.specs.Views.{View, ascends, is_view}
@@ -31,7 +31,9 @@ use Rattle.world_rules.specs.declared.message.Content.{Content}
 use Rattle.world_rules.specs.declared.message.Content.TheVariants as contents
 use Rattle.world_rules.specs.declared.message.Sent.{Sent}
 use Rattle.world_rules.specs.Stated.{stated_in, stated, diary_of, diary}
-use Rattle.world_laws.proofs.Lists.{each_set}
+use Rattle.world_laws.proofs.Lists.{each_insert, each_set}
+use Rattle.world_laws.specs.Promises.{IsWitness}
+use Rattle.world_laws.proofs.Names.{any_insert, map_insert, names}
 use Rattle.world_laws.proofs.Keeps.{HasContent, MayRead}
 use Rattle.smart_base.proofs.SameLists.{and_true}
 use Rattle.smart_base.proofs.ViewFacts.{each-weaken}
@@ -110,13 +112,21 @@ firm_of h = h.life.diary
 abbrev pub ShowsOwn : {S : Type 0} → List ℕ → Statement → Host S → Type 0
 ShowsOwn faulty x h = signer_of x ≡ Member h.node.id → is_among faulty h.node.id ≡ false → IsShown digest_of (firm_of h) x
 
--- so it is with all that has been stated, at all hosts
+-- a member whose statement it is has a host, or is faulty
+abbrev pub IsOfHost : {S : Type 0} → List ℕ → List (Host S) → Statement → Type 0
+IsOfHost faulty hosts x = (member : ℕ) → signer_of x ≡ Member member → (is_among faulty member ≡ true) ⊎ (list_any (λ k. k == member) (names hosts) ≡ true)
+
+-- a statement that its member's host shows, if the member is not faulty
+abbrev pub IsShownAt : {S : Type 0} → List ℕ → List (Host S) → Statement → Type 0
+IsShownAt faulty hosts x = Each (ShowsOwn faulty x) hosts × IsOfHost faulty hosts x
+
+-- so it is with all that has been stated
 abbrev pub AllShown : {S : Type 0} → List ℕ → List Statement → List (Host S) → Type 0
-AllShown faulty stated hosts = (x : Statement) → Among x stated → Each (ShowsOwn faulty x) hosts
+AllShown faulty stated hosts = (x : Statement) → Among x stated → IsShownAt faulty hosts x
 
 -- a content states nothing but what has been stated or is shown
 abbrev pub StatesShown : {S : Type 0} → List ℕ → List Statement → List (Host S) → Content → Type 0
-StatesShown faulty stated hosts content = (x : Statement) → Among x (stated_in content) → Among x stated ⊎ Each (ShowsOwn faulty x) hosts
+StatesShown faulty stated hosts content = (x : Statement) → Among x (stated_in content) → Among x stated ⊎ IsShownAt faulty hosts x
 
 -- who is not among more is not among fewer
 not_fewer : (few more : List ℕ) (id : ℕ) → ((member : ℕ) → is_among few member ≡ true → is_among more member ≡ true) → is_among more id ≡ false → is_among few id ≡ false
@@ -132,14 +142,22 @@ not_fewer few more id grows none = by (is_among few id) refl
 -- it stays so where more members are faulty
 pub shown-faulty : {S : Type 0} (faulty more : List ℕ) (stated : List Statement) (hosts : List (Host S)) → ((member : ℕ) → is_among faulty member ≡ true → is_among more member ≡ true) → AllShown faulty stated hosts
     → AllShown more stated hosts
-shown-faulty faulty more stated hosts grows all x there =
-    each-weaken (ShowsOwn faulty x) (ShowsOwn more x) (λ h shows who correct. shows who (not_fewer faulty more h.node.id grows correct)) hosts (all x there)
+shown-faulty faulty more stated hosts grows all x there = (
+  each-weaken (ShowsOwn faulty x) (ShowsOwn more x) (λ h shows who correct. shows who (not_fewer faulty more h.node.id grows correct)) hosts (all x there).0,
+  λ member who. ⊎_elim (λ is. inl (grows member is)) (λ named. inr named) ((all x there).1 member who),
+)
 
 -- where more is sent
 pub shown-sent : {S : Type 0} (faulty : List ℕ) (sent : List Sent) (s : Sent) (hosts : List (Host S)) → StatesShown faulty (stated sent) hosts s.content → AllShown faulty (stated sent) hosts
     → AllShown faulty (stated (sent ++ s ∷ [])) hosts
 shown-sent {S = S} faulty sent s hosts states all x there =
-    ⊎_elim {C = Each (ShowsOwn faulty x) hosts} (λ old. all x old) (λ new. ⊎_elim {C = Each (ShowsOwn faulty x) hosts} (λ old. all x old) (λ shows. shows) (states x new)) (stated-either sent s x there)
+    ⊎_elim {C = IsShownAt faulty hosts x} (λ old. all x old) (λ new. ⊎_elim {C = IsShownAt faulty hosts x} (λ old. all x old) (λ shows. shows) (states x new)) (stated-either sent s x there)
+
+-- hosts keep their names
+pub ids-set : {S : Type 0} (hs : List (Host S)) (i : ℕ) (h h' : Host S) → slice_get hs i ≡ Some h → h'.node.id ≡ h.node.id → map (λ y. y.node.id) (slice_set hs i h') ≡ map (λ y. y.node.id) hs
+ids-set [] i h h' at same = absurd (cc)
+ids-set {S = S} (x ∷ hs) zero h h' at same = ap (λ y. y ∷ map (λ z. z.node.id) hs) (same ∙ sym (ap (λ (z : Host S). z.node.id) (some_equal x h at)))
+ids-set (x ∷ hs) (suc i) h h' at same = ap (λ ys. x.node.id ∷ ys) (ids-set hs i h h' at same)
 
 -- and where a host has a longer book, of which more is firm
 pub record Firmer {S : Type 0} (h h' : Host S) : Type 0 where
@@ -154,8 +172,10 @@ shows-firmer faulty x h h' f shows who correct =
 pub shown-set : {S : Type 0} (faulty : List ℕ) (stated : List Statement) (hosts : List (Host S)) (i : ℕ) (h h' : Host S) → slice_get hosts i ≡ Some h → Firmer h h' → AllShown faulty stated hosts
     → AllShown faulty stated (slice_set hosts i h')
 shown-set {S = S} faulty stated hosts i h h' at f all x there =
-    let each : Each (ShowsOwn faulty x) hosts = all x there in
-    each_set (ShowsOwn faulty x) hosts i h' each (shows-firmer faulty x h h' f (get hosts i each at))
+    let each : Each (ShowsOwn faulty x) hosts = (all x there).0 in (
+      each_set (ShowsOwn faulty x) hosts i h' each (shows-firmer faulty x h h' f (get hosts i each at)),
+      λ member who. subst (λ (ids : List ℕ). (is_among faulty member ≡ true) ⊎ (list_any (λ k. k == member) ids ≡ true)) (sym (ids-set hosts i h h' at f.named)) ((all x there).1 member who),
+    )
   where
     get : (hs : List (Host S)) (j : ℕ) → Each (ShowsOwn faulty x) hs → slice_get hs j ≡ Some h → ShowsOwn faulty x h
     get [] j each at = absurd (cc)
@@ -206,6 +226,26 @@ shown_own {S = S} faulty x (g ∷ hs) (suc i) h once at who shown = (
   λ mine correct. absurd (not_later g.node.id h.node.id (map (λ k. k.node.id) hs) (members_same g.node.id h.node.id (sym mine ∙ who)) once.0 (named_at hs i h at)),
   shown_own faulty x hs i h once.1 at who shown,
 )
+
+-- it is of that host
+pub own_host : {S : Type 0} (faulty : List ℕ) (x : Statement) (hs : List (Host S)) (i : ℕ) (h : Host S) → slice_get hs i ≡ Some h → signer_of x ≡ Member h.node.id → IsOfHost faulty hs x
+own_host {S = S} faulty x hs i h at who = λ member is.
+    inr (subst (λ (k : ℕ). list_any (λ y. y == k) (names hs) ≡ true) (members_same h.node.id member (sym who ∙ is)) (named_at hs i h at))
+
+-- so where there is a host of a new member, which has stated nothing
+pub shown-added : {S : Type 0} (faulty : List ℕ) (stated : List Statement) (hosts : List (Host S)) (i : ℕ) (new : Host S) → list_any (λ k. k == new.node.id) (names hosts) ≡ false → AllShown faulty stated hosts
+    → AllShown faulty stated (insert hosts i new)
+shown-added {S = S} faulty stated hosts i new none all x there =
+    let more : names (insert hosts i new) ≡ insert (names hosts) i new.node.id = map_insert (λ (h : Host S). h.node.id) hosts i new in (
+      each_insert (ShowsOwn faulty x) hosts i new (all x there).0
+          (λ who correct. absurd (⊎_elim {C = ⊥} (λ is. both (sym is ∙ correct)) (λ named. both (sym named ∙ none)) ((all x there).1 new.node.id who))),
+      λ member who. subst (λ (ids : List ℕ). (is_among faulty member ≡ true) ⊎ (list_any (λ k. k == member) ids ≡ true)) (sym more)
+          (⊎_elim {C = (is_among faulty member ≡ true) ⊎ (list_any (λ k. k == member) (insert (names hosts) i new.node.id) ≡ true)} (λ is. inl is)
+          (λ named. inr (any_insert (λ k. k == member) (names hosts) i new.node.id named)) ((all x there).1 member who)),
+    )
+  where
+    both : true ≡ false → ⊥
+    both same = cc
 
 -- what a node lets go
 
@@ -262,7 +302,7 @@ running_shown {S = S} stated view n (e ∷ es) later d x is book both firm count
 leaving_shows : {S : Type 0} (faulty : List ℕ) (stated : List Statement) (hosts : List (Host S)) (i : ℕ) (h : Host S) (held : Held) → Distinct (map (λ g. g.node.id) hosts) → slice_get hosts i ≡ Some h
     → Each (λ s. Among s stated ⊎ ((signer_of s ≡ Member h.node.id) × IsShown digest_of (firm_of h) s)) (statements group_secret held.message) → StatesShown faulty stated hosts (contents.Message held.message)
 leaving_shows {S = S} faulty T hosts i h held once at each x there =
-    ⊎_elim {C = Among x T ⊎ Each (ShowsOwn faulty x) hosts} (λ old. inl old) (λ own. inr (shown_own faulty x hosts i h once at own.0 own.1))
+    ⊎_elim {C = Among x T ⊎ IsShownAt faulty hosts x} (λ old. inl old) (λ own. inr (shown_own faulty x hosts i h once at own.0 own.1, own_host faulty x hosts i h at own.0))
     (each_among (λ (s : Statement). Among s T ⊎ ((signer_of s ≡ Member h.node.id) × IsShown digest_of (firm_of h) s)) (statements group_secret held.message) x each there)
 
 -- so it is with all that leave
@@ -320,19 +360,31 @@ none_lawful before entry after split = absurd (apart before split)
     apart [] same = cc
     apart (e ∷ es) same = cc
 
--- where few are faulty, all hosts are such, one of each member, and show what has been stated, it is witnessed
-pub witnessing : {S : Type 0} (w : World S) → is_view w.view ≡ true → too_many w.view w.faulty ≡ false → Each (HostStands (stated w.sent) w.view) w.hosts → map (λ h. h.node.id) w.hosts ≡ w.view.members
-    → AllShown w.faulty (stated w.sent) w.hosts → Witnessed group_secret digest_of w.view (is_among w.faulty) (diary w) (stated w.sent)
-witnessing {S = S} w viewed few hosts ids all =
+-- where all hosts are such, and show what has been stated, each member's diary does
+pub witness-of : {S : Type 0} (w : World S) → Each (HostStands (stated w.sent) w.view) w.hosts → AllShown w.faulty (stated w.sent) w.hosts → (member : ℕ) → IsWitness w member
+witness-of {S = S} w hosts all member = record {
+  lawful = by_host (λ (es : List LogEntry). Lawful 0 0 es) none_lawful w.hosts
+      (each-weaken (HostStands (stated w.sent) w.view) (λ (h : Host S). Lawful 0 0 (firm_of h)) (λ h is. is.lawful) w.hosts hosts) member;
+  backed = by_host (Each (IsBacked group_secret digest_of w.view (stated w.sent))) tt w.hosts
+      (each-weaken (HostStands (stated w.sent) w.view) (λ (h : Host S). Each (IsBacked group_secret digest_of w.view (stated w.sent)) (firm_of h)) (λ h is. is.backed) w.hosts hosts) member;
+  shown = λ x there who correct. shown_at w.faulty x w.hosts member (all x there).0 (named x there who correct) who correct;
+}
+  where
+    both : true ≡ false → ⊥
+    both same = cc
+
+    named : (x : Statement) → Among x (stated w.sent) → signer_of x ≡ Member member → is_among w.faulty member ≡ false → list_any (λ k. k == member) (names w.hosts) ≡ true
+    named x there who correct =
+        ⊎_elim {C = list_any (λ k. k == member) (names w.hosts) ≡ true} (λ gone. absurd (both (sym gone ∙ correct))) (λ here. here) ((all x there).1 member who)
+
+-- and where few are faulty, it is witnessed
+pub witnessing : {S : Type 0} (w : World S) → is_view w.view ≡ true → too_many w.view w.faulty ≡ false → ((member : ℕ) → IsWitness w member)
+    → Witnessed group_secret digest_of w.view (is_among w.faulty) (diary w) (stated w.sent)
+witnessing w viewed few each =
     record {
       few = few_faulty w.view w.faulty viewed few;
-      lawful = λ member correct.
-          by_host (λ (es : List LogEntry). Lawful 0 0 es) none_lawful w.hosts
-          (each-weaken (HostStands (stated w.sent) w.view) (λ (h : Host S). Lawful 0 0 (firm_of h)) (λ h is. is.lawful) w.hosts hosts) member;
-      backed = λ member correct.
-          by_host (Each (IsBacked group_secret digest_of w.view (stated w.sent))) tt w.hosts
-          (each-weaken (HostStands (stated w.sent) w.view) (λ (h : Host S). Each (IsBacked group_secret digest_of w.view (stated w.sent)) (firm_of h)) (λ h is. is.backed) w.hosts hosts) member;
-      shown = λ member correct x there who.
-          shown_at w.faulty x w.hosts member (all x there) (subst (λ (ms : List ℕ). list_any (λ y. y == member) ms ≡ true) (sym ids) correct.within) who correct.correct;
+      lawful = λ member correct. (each member).lawful;
+      backed = λ member correct. (each member).backed;
+      shown = λ member correct x there who. (each member).shown x there who correct.correct;
       closed = stated_closed w.sent;
     }

@@ -1,7 +1,7 @@
 -- The promise of a play: all members deliver one list of batches (state machine replication).
 use Rattle.std.specs.Prelude.{ℕ, zero, suc, true, ◌+◌, ◌-◌, ◌^◌, ◌++◌, ◌==◌, ◌≡◌, ◌<◌, ◌≤◌, ◌⊎◌, List, [], ◌∷◌, length, take, slice_get, max, filter, map, if◌then◌else◌, nat_le, not, ◌&&◌, Bool, false, Option, Some, None, IfSome}
-use Rattle.smart_base.specs.Lists.{Each}
-use Rattle.smart_base.specs.Views.{View, is_view}
+use Rattle.smart_base.specs.Lists.{Distinct, Each}
+use Rattle.smart_base.specs.Views.{View, is_member, is_view}
 use Rattle.smart_statements.specs.Kinds.{requests}
 use Rattle.smart_statements.specs.Batches.{Batch}
 use Rattle.smart_statements.specs.declared.statement.Request.{Request}
@@ -11,15 +11,17 @@ use Rattle.smart_base.specs.declared.limits.TheConstants.{CLIENTS, LAST_CLIENT}
 use Rattle.smart_messages.specs.declared.message.Message.TheVariants.{Ask}
 use Rattle.smart_service.specs.Services.{Meaning}
 use Rattle.replica_rules.specs.Replicas.{state, executed_lines, answer, place_of, batch_at, request_at, view_at}
-use Rattle.replica_rules.specs.Seals.{signed}
+use Rattle.replica_rules.specs.Seals.{digest_of, signed}
 use Rattle.node_rules.specs.Nodes.{next_place}
 use Rattle.node_rules.specs.Deliveries.{AtPlaces}
 use Rattle.node_rules.specs.Reopening.{damage_of, reopened_from}
 use Rattle.smart_service.specs.declared.replica.Replica.{Replica}
 use Rattle.snapshot_form.specs.Replicas.{is_first_view}
-use Rattle.vote_book.specs.Books.{Among, HasMade, last_made}
+use Rattle.vote_book.specs.Books.{Among, HasMade, last_made, Lawful}
 use Rattle.vote_book.specs.Entries.{entry_text}
 use Rattle.book_laws.specs.BookCuts.{cut_at}
+use Rattle.agreement_laws.specs.Certificates.{IsBacked}
+use Rattle.agreement_laws.specs.Diaries.{IsShown}
 use Rattle.agreement_laws.specs.Statements.{Statement, signer_of, said, reply_stated}
 use Rattle.store_laws.specs.Restored.{Images, restores}
 use Rattle.world_rules.specs.Crashes.{images_left, wrong_images}
@@ -30,8 +32,8 @@ use Rattle.node_rules.specs.declared.node.Delivery.{Delivery}
 use Rattle.world_rules.specs.Secrets.{group_secret}
 use Rattle.world_rules.specs.Premises.{is_among}
 use Rattle.world_rules.specs.declared.message.Content.TheVariants as contents
-use Rattle.world_rules.specs.Worlds.{Host, World, course_of, is_gone, life_crashed, parts_of, parts_held, host_index, host_resumed, begun}
-use Rattle.world_rules.specs.Plays.{world_after, lines_told}
+use Rattle.world_rules.specs.Worlds.{Host, World, course_of, is_gone, life_crashed, parts_of, parts_held, host_index, host_resumed, is_name, begun}
+use Rattle.world_rules.specs.Plays.{has_member, world_after, lines_told}
 use Rattle.world_rules.specs.Knowing.{known_by}
 use Rattle.world_rules.specs.Stated.{IsWitnessed, stated, diary}
 use Rattle.client_quorum.specs.declared.client.Acceptance.{Acceptance}
@@ -75,17 +77,22 @@ abbrev pub restored_replica : {S : Type 0} → Meaning S → View → ℕ → Ho
 restored_replica m view period h left = (reopened_from m group_secret h.node.id view period (parts_of (restores left))).replica
 
 -- a correct member whose devices restore a place or a later one
-abbrev pub has_place : {S : Type 0} → Meaning S → World S → (ℕ → Images) → ℕ → Host S → Bool
-has_place m w left place h = not (is_gone w h.node.id) && nat_le place (restored_replica m w.view w.period h (left h.node.id)).place
+abbrev pub restores_place : {S : Type 0} → Meaning S → World S → (ℕ → Images) → ℕ → Host S → Bool
+restores_place m w left place h = not (is_gone w h.node.id) && nat_le place (restored_replica m w.view w.period h (left h.node.id)).place
+
+-- such a member of a view
+abbrev pub has_place : {S : Type 0} → Meaning S → World S → View → (ℕ → Images) → ℕ → Host S → Bool
+has_place m w view left place h = is_member view h.node.id && restores_place m w left place h
 
 -- bytes that crashes now may leave of the devices of all correct members, whether their nodes run or have crashed
 abbrev pub MayBeLeft : {S : Type 0} → World S → (ℕ → Images) → Type 0
 MayBeLeft w left = Each (λ h. is_gone w h.node.id ≡ false → MayLeave h.store.devices (left h.node.id)) w.hosts
 
--- A place that crashes cannot take back. Whatever crashes leave of the devices of correct members, more than f of these members restore that
--- place or a later one. INTERIM(views): later these are members of the view that is in force at the place.
+-- A place that crashes cannot take back. Take the view in force there. Whatever crashes leave of the devices of correct members, more than f
+-- correct members of that view restore that place or a later one.
 pub record IsKept {S : Type 0} (m : Meaning S) (w : World S) (place : ℕ) : Type 0 where
-  pub enough : (left : ℕ → Images) → MayBeLeft w left → w.view.f < length (filter (has_place m w left place) w.hosts)
+  pub enough : (left : ℕ → Images) → MayBeLeft w left
+      → (view_at w.view w.chosen place).f < length (filter (has_place m w (view_at w.view w.chosen place) left place) w.hosts)
 
 -- A member that can restart (recovery: Dura-SMaRt, USENIX ATC 2013). A crash may leave each device as it was at its last sync, or as it
 -- reads now. A crash line without patches therefore never ends a play. Whatever a crash leaves, the devices restore exactly the cut of the
@@ -167,16 +174,26 @@ unfoldable pub numbers_from : ℕ → ℕ → List ℕ
 numbers_from zero i = []
 numbers_from (suc count) i = i ∷ numbers_from count (i + 1)
 
--- One list at a moment of a play. Each node has delivered a front of it, also a node that is gone or has stopped. Whatever crashes leave of a
--- node's devices, it restarts from a front of the list. Each member of the view has one node, and each number from 0 to 1,024 one client. Each
--- reply that a node holds or a correct member has stated is right. Each accepted reply is right, a quorum has given it, and its place is kept.
--- A client accepts one reply to each number. What a node or a client has sent is its own. A node's votes, replies and reports rest on what became firm there.
+-- A member's diary, whether the member is one of a view or has only a node. It is lawful, and rests on what has been stated. It shows each
+-- statement of the member, in whichever message it stands, unless the member is faulty. INTERIM(views): it rests on votes of one view
+pub record IsWitness {S : Type 0} (w : World S) (member : ℕ) : Type 0 where
+  pub lawful : Lawful 0 0 (diary w member)
+  pub backed : Each (IsBacked group_secret digest_of w.view (stated w.sent)) (diary w member)
+  pub shown : (s : Statement) → Among s (stated w.sent) → signer_of s ≡ Member member → is_among w.faulty member ≡ false → IsShown digest_of (diary w member) s
+
+-- One list at a moment of a play. Each node has delivered a front of it, also a node that is gone, has stopped, or is no member. Whatever
+-- crashes leave of a node's devices, it restarts from a front of the list. Each member of the view that the group begins with has a node. No
+-- member has two. Each number from 0 to 1,024 has one client. Each node's diary is lawful, and shows what the node has stated. Each reply that
+-- a node holds or a correct member has stated is right. Each accepted reply is right, a quorum has given it, and its place is kept. A client
+-- accepts one reply to each number. What a node or a client has sent is its own. A node's votes, replies and reports rest on what became firm
+-- there.
 pub record OneList {S : Type 0} (m : Meaning S) (w : World S) : Type 0 where
-  -- INTERIM(views): the hosts are the members of the view that the group begins with
-  pub members : map (λ h. h.node.id) w.hosts ≡ w.view.members
+  pub members : filter (is_member w.view) (map (λ h. h.node.id) w.hosts) ≡ w.view.members
+  pub nodes : Distinct (map (λ h. h.node.id) w.hosts)
   pub clients : map (λ c. c.id) w.clients ≡ numbers_from CLIENTS 0
   pub hosts : Each (IsPrefix m w.view w.chosen) w.hosts
   pub recovers : Each (Recovers m w) w.hosts
+  pub witness : (member : ℕ) → IsWitness w member
   pub replied : AreRepliesRight m w
   pub accepted : Each (IsRight m w) w.accepted
   pub quorums : QuorumsReplied w
@@ -332,6 +349,16 @@ pub record AreDeclared (declares : ℕ → Line) (played : List Line) (ending : 
   pub only : (id : ℕ) → is_among ids id ≡ true → Among (declares id) played
   pub all : ending ≡ None → (id : ℕ) → Among (declares id) played → is_among ids id ≡ true
 
+-- Nodes that stand in a world. Each is of a member of the view that the group begins with, or of one for which a played line added a node.
+-- While nothing has ended the play, each member has one for which a played line added it.
+pub record AreAdded {S : Type 0} (played : List Line) (w : World S) : Type 0 where
+  pub only : (id : ℕ) → has_member w id ≡ true → (is_member w.view id ≡ true) ⊎ Among (lines.Node id) played
+  pub all : w.ending ≡ None → (id : ℕ) → is_name id ≡ true → Among (lines.Node id) played → has_member w id ≡ true
+
+-- lines of which none adds a node
+abbrev pub AddsNone : List Line → Type 0
+AddsNone ls = (id : ℕ) → Among (lines.Node id) ls → ⊥
+
 -- a request that was sent already, or that states no earlier place than the transcript has told its client
 abbrev pub IsPast : List Sent → List OutLine → Request → Type 0
 IsPast sent told q = HasAsked sent q ⊎ (known_by q.client told ≤ q.after)
@@ -367,6 +394,7 @@ HasTaught w before after (lines.Restart member) = Unit {0}
 HasTaught w before after lines.RestartAll = Unit {0}
 HasTaught w before after lines.SettleAll = Unit {0}
 HasTaught w before after lines.Show = Unit {0}
+HasTaught w before after (lines.Node member) = Unit {0}
 HasTaught w before after (lines.Faulty member) = Unit {0}
 HasTaught w before after (lines.Rogue client) = Unit {0}
 HasTaught w before after (lines.Inject form) = Unit {0}
@@ -378,21 +406,23 @@ HasRestarted {S = S} m before after member =
     before.ending ≡ None → (i : ℕ) (h : Host S) → host_index before.hosts member ≡ Some i → slice_get before.hosts i ≡ Some h → h.up ≡ false → is_gone before h.node.id ≡ false
     → slice_get after.hosts i ≡ Some (host_resumed h (reopened_from m group_secret h.node.id before.view before.period (parts_held h)))
 
--- One list throughout a play: it holds after each line. The group's view stays, INTERIM(views), and so does its period. The faulty members
--- and the rogue clients are those that a line has declared. The list, what was sent, what was accepted and each diary only grow. Each
--- transcript line of an accepted reply tells the service's answer on the list. The transcript tells each accepted reply once, in order, and
--- no other. It tells the deliveries of each node once, in order, through all its lives, and no other. Each node goes on from the place that
--- the last line of its restart or installation tells. After a line that restarts a crashed member, its node runs, from what its devices
--- hold. After a line that tells a client what another knows, the client knows that too. The request of each accepted reply states what its
--- client knew. Take any line after which it had not been sent: it states no earlier place than the transcript had told the client by then.
--- Those are places of accepted replies, and learned ones. The reply stands past them all, as its place is later than the one that the request
--- states (`above` of `IsRightReply`). After each line the diary of each correct member is lawful and rests on what has been stated. It shows
--- each statement of the member that stands in what was sent. Each batch of the list has a decision among what has been stated. While a member
--- runs, what is firm of its node's book is the cut of its diary. After its crash its devices restore the cut of the diary.
+-- One list throughout a play: it holds after each line. The view that the group begins with stays, and so does its period. The nodes are
+-- those of that view's members and those that a line has added. The faulty members and the rogue clients are those that a line has declared.
+-- The list, what was sent, what was accepted and each diary only grow. Each transcript line of an accepted reply tells the service's answer
+-- on the list. The transcript tells each accepted reply once, in order, and no other. It tells the deliveries of each node once, in order,
+-- through all its lives, and no other. Each node goes on from the place that the last line of its restart or installation tells. After a
+-- line that restarts a crashed member, its node runs, from what its devices hold. After a line that tells a client what another knows, the
+-- client knows that too. The request of each accepted reply states what its client knew. Take any line after which it had not been sent: it
+-- states no earlier place than the transcript had told the client by then. Those are places of accepted replies, and learned ones. The reply
+-- stands past them all, as its place is later than the one that the request states (`above` of `IsRightReply`). After each line the diary of
+-- each correct member is lawful and rests on what has been stated. It shows each statement of the member that stands in what was sent. Each
+-- batch of the list has a decision among what has been stated. While a member runs, what is firm of its node's book is the cut of its diary.
+-- After its crash its devices restore the cut of the diary.
 pub record OneListThroughout {S : Type 0} (m : Meaning S) (g : Header) (ls : List Line) : Type 0 where
   pub one_list : (k : ℕ) → OneList m (world_at m g ls k)
   pub viewed : (k : ℕ) → (world_at m g ls k).view ≡ g.view
   pub period : (k : ℕ) → (world_at m g ls k).period ≡ g.period
+  pub nodes : (k : ℕ) → AreAdded (take k ls) (world_at m g ls k)
   pub faulty : (k : ℕ) → AreDeclared (λ member. lines.Faulty member) (take k ls) (world_at m g ls k).ending (world_at m g ls k).faulty
   pub rogue : (k : ℕ) → AreDeclared (λ client. lines.Rogue client) (take k ls) (world_at m g ls k).ending (world_at m g ls k).rogue
   pub grows : (j k : ℕ) → j ≤ k → take (length (world_at m g ls j).chosen) (world_at m g ls k).chosen ≡ (world_at m g ls j).chosen

@@ -1,8 +1,11 @@
 //! One list of batches, in every play.
-ghost use Rattle.std.specs.Prelude.{◌≡◌, List};
+ghost use Rattle.std.specs.Prelude.{◌≡◌, ◌<◌, ℕ, List, length, take, filter, map};
+ghost use Rattle.replica_rules.specs.Replicas.{view_at};
+ghost use Rattle.store_laws.specs.Restored.{Images};
+ghost use Rattle.world_rules.specs.Worlds.{World};
 ghost use Rattle.world_rules.specs.declared.line.Header.{Header};
 ghost use Rattle.world_rules.specs.declared.line.Line.{Line};
-ghost use Rattle.world_laws.specs.Promises.{IsHeader, OneListThroughout};
+ghost use Rattle.world_laws.specs.Promises.{AddsNone, IsHeader, IsKept, MayBeLeft, OneListThroughout, restores_place, world_at};
 
 use smart_service::service::Service;
 
@@ -12,12 +15,11 @@ use smart_service::service::Service;
 /// A script may inject anything in the names of up to f faulty members and of rogue clients. It may
 /// crash any members, and their devices may then hold whatever a crash can leave.
 ///
-/// *Delivery.* Each node has delivered a front of the list, also a faulty member's and a crashed
-/// one's. Its service, its table of clients and its views are the state after that front, also where
-/// it took over a replica. Since then, or since this life began, its steps delivered one batch at each
-/// place after that one, in order.
-/// Each batch that a step delivered, in any life, is the list's at its place. A decided batch that
-/// waits for delivery is the list's at the next place.
+/// *Delivery.* Each node has delivered a front of the list, also a faulty member's, a crashed one's
+/// and one of no member. Its service, its table of clients and its views are the state after that
+/// front, also where it took over a replica. Since then, or since this life began, its steps delivered
+/// one batch at each place after that one, in order. Each batch that a step delivered, in any life, is
+/// the list's at its place. A decided batch that waits for delivery is the list's at the next place.
 ///
 /// *Restart.* Whatever a crash now leaves of a member's devices, they restore a cut of the diary that
 /// this crash makes. It is the cut at the place of their checkpoint, which that diary has made, no more
@@ -35,21 +37,21 @@ use smart_service::service::Service;
 ///
 /// *Acceptance.* Each reply that a client accepted is right. The request at its place is the one that
 /// the client asked; for a rogue client it may be another request of that number. A quorum of the
-/// view's members has given the reply. Its place is kept: whatever crashes leave of devices, more
-/// than f correct members restore it or a later one. The request states no earlier
-/// place than any that its client knew before it sent the request. What a client knows the transcript
-/// tells: places of accepted replies, and learned ones.
+/// view's members has given the reply. Its place is kept. Take the view in force there: whatever
+/// crashes leave of devices, more than f correct members of it restore that place or a later one. The
+/// request states no earlier place than any that its client knew before it sent the request. What a
+/// client knows the transcript tells: places of accepted replies, and learned ones.
 ///
-/// *The list and the transcript.* The view and the period stay the header's, and the members have
-/// one node each. The list only grows. Each line of an accepted reply names where the list executes
-/// that client's request of that number, and the answer there. The transcript tells each accepted
-/// reply, once and in order, and no other. It tells each batch that a step of a node delivered, in
-/// all the node's lives and in order, and no other. A restart delivers decided batches again, and
-/// no line tells that.
+/// *The list and the transcript.* The view and the period stay the header's. Its members have one
+/// node each, and a line has added each other node. The list only grows. Each line of an accepted reply
+/// names where the list executes that client's request of that number, and the answer there. The
+/// transcript tells each accepted reply, once and in order, and no other. It tells each batch that a
+/// step of a node delivered, in all the node's lives and in order, and no other. A restart delivers
+/// decided batches again, and no line tells that.
 ///
 /// *Evidence.* What a node or a client has sent is its own, except a client's request that a node
 /// passed on. A node's votes, replies and reports rest on entries that became firm there. After each
-/// line the diary of each correct member is lawful, and shows what the member has stated.
+/// line each node's diary is lawful, also one of no member. It shows what a correct node has stated.
 ///
 /// *Declared.* The faulty members and the rogue clients are those that a line declared so. There is one
 /// client for each number from 0 to 1,024. What was sent, what was accepted and each diary only grow. A
@@ -59,4 +61,16 @@ use smart_service::service::Service;
 /// there.
 pub fn one_list_throughout<S: Service>()
     ensures { (header : Header) (ls : List Line) → IsHeader header → OneListThroughout S.meaning header ls }
+{}
+
+/// What that promise says where no line has added a node: the nodes are those of the header's
+/// members, in order.
+///
+/// A kept place is one that more than f correct nodes restore, or a later one, whatever crashes leave
+/// of their devices. This f is that of the view in force at the place.
+pub fn one_list_without_new_nodes<S: Service>()
+    ensures members { (header : Header) (ls : List Line) (k : ℕ) → OneListThroughout S.meaning header ls → AddsNone (take k ls) →
+        map (λ h. h.node.id) (world_at S.meaning header ls k).hosts ≡ header.view.members }
+    ensures kept { (w : World S) (place : ℕ) (left : ℕ → Images) → IsKept S.meaning w place → MayBeLeft w left →
+        (view_at w.view w.chosen place).f < length (filter (restores_place S.meaning w left place) w.hosts) }
 {}

@@ -1,10 +1,10 @@
 -- The play of a script's lines.
-use Rattle.std.specs.Prelude.{ℕ, ◌≡◌, nat_le, Bool, true, false, ◌&&◌, List, [], ◌∷◌, ◌++◌, length, None, is_some}
+use Rattle.std.specs.Prelude.{ℕ, ◌≡◌, nat_le, Bool, true, false, not, ◌&&◌, List, [], ◌∷◌, ◌++◌, length, None, is_some}
 use Rattle.std.specs.List.{list_all}
 use Rattle.smart_service.specs.Services.{Meaning}
 use Rattle.smart_base.specs.declared.party.Party.{Party}
 use Rattle.smart_base.specs.declared.party.Party.TheVariants as parties
-use Rattle.world_rules.specs.Worlds.{World, Course, asks, repeats, tells, calls_disk, crashes, crash_all, restart_member, restart_all, settle, settle_all, flows, host_index, at_member, give_number, deliver_each, tick_each, shows, declares_faulty, declares_rogue, injects, begun}
+use Rattle.world_rules.specs.Worlds.{World, Course, asks, repeats, tells, calls_disk, crashes, crash_all, restart_member, restart_all, settle, settle_all, flows, host_index, at_member, give_number, deliver_each, tick_each, shows, adds_node, declares_faulty, declares_rogue, injects, begun}
 use Rattle.world_rules.specs.Repeats.{repeated}
 use Rattle.world_rules.specs.Injections.{injected_bytes}
 use Rattle.world_rules.specs.declared.line.Header.{Header}
@@ -21,7 +21,7 @@ abbrev pub has_party : {S : Type 0} → World S → Party → Bool
 has_party w (parties.Member id) = has_member w id
 has_party w (parties.Client id) = true
 
--- a line of which everything that it names is there
+-- a line of which everything that it names is there, and a new node's member has none yet
 unfoldable pub is_there : {S : Type 0} → World S → Line → Bool
 is_there w lines.Nothing = true
 is_there w (lines.Ask client op) = true
@@ -39,6 +39,7 @@ is_there w (lines.Restart member) = has_member w member
 is_there w lines.RestartAll = true
 is_there w lines.SettleAll = true
 is_there w lines.Show = true
+is_there w (lines.Node member) = not (has_member w member)
 is_there w (lines.Faulty member) = has_member w member
 is_there w (lines.Rogue client) = true
 is_there w (lines.Inject form) = is_some (injected_bytes w.sent form)
@@ -61,6 +62,7 @@ line_played course w (lines.Restart member) = restart_member course member w
 line_played course w lines.RestartAll = restart_all course w
 line_played course w lines.SettleAll = settle_all course [] w
 line_played course w lines.Show = shows w
+line_played course w (lines.Node member) = adds_node course member w
 line_played course w (lines.Faulty member) = declares_faulty member w
 line_played course w (lines.Rogue client) = declares_rogue client w
 line_played course w (lines.Inject form) = injects form w

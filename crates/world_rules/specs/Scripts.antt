@@ -268,6 +268,12 @@ abbrev pub show_line : List (List ℕ) → Result Line Kind
 show_line [] = Ok lines.Show
 show_line (word ∷ words) = Err kinds.Count
 
+-- the line `node`: one member
+abbrev pub node_line : List (List ℕ) → Result Line Kind
+node_line [] = Err kinds.Count
+node_line (member ∷ []) = or_number lines.Node (member_of member)
+node_line (member ∷ next ∷ more) = Err kinds.Count
+
 -- a member, or a client, that breaks the rules
 
 -- the lines that declare a member faulty, or a client rogue
@@ -525,6 +531,7 @@ line_by bytes (word ∷ words) =
     else if same_bytes word (codes "crash") then crash_line words
     else if same_bytes word (codes "restart") then restart_line words
     else if same_bytes word (codes "show") then show_line words
+    else if same_bytes word (codes "node") then node_line words
     else if same_bytes word (codes "faulty") then faulty_line words
     else if same_bytes word (codes "rogue") then rogue_line words
     else if same_bytes word (codes "inject") then injecting (form_by bytes words)

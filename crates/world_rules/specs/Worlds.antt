@@ -1,5 +1,5 @@
 -- The world of a play: hosts, clients, everything that was sent, and the chosen list of batches. An event makes a new world of it.
-use Rattle.std.specs.Prelude.{ℕ, zero, suc, ◌+◌, ◌^◌, ◌==◌, nat_lt, take, not, ◌||◌, false, List, [], ◌∷◌, ◌++◌, length, map, drop, if◌then◌else◌, Option, Some, None, is_some, option_map, slice_get, slice_set, Result, Ok, Err, nat_le, ◌&&◌, ◌-◌, Bool, true}
+use Rattle.std.specs.Prelude.{ℕ, zero, suc, ◌+◌, ◌^◌, ◌==◌, nat_lt, take, not, ◌||◌, false, List, [], ◌∷◌, ◌++◌, length, map, filter, drop, if◌then◌else◌, Option, Some, None, is_some, option_map, slice_get, slice_set, insert, Result, Ok, Err, nat_le, ◌&&◌, ◌-◌, Bool, true}
 use Rattle.std.specs.List.{flat_map, list_any, position}
 use Rattle.smart_base.specs.Lists.{or_else}
 use Rattle.smart_base.specs.Views.{View}
@@ -781,6 +781,35 @@ host_of_node n = record {
 abbrev pub hosts_from : {S : Type 0} → Meaning S → View → ℕ → List ℕ → List (Host S)
 hosts_from m view period [] = []
 hosts_from m view period (id ∷ ids) = host_of_node (opened (outset_of m view period id)) ∷ hosts_from m view period ids
+
+-- new nodes
+
+-- a number that a member may have
+abbrev pub is_name : ℕ → Bool
+is_name id = nat_le 1 id && nat_le id 65535
+
+-- how many hosts are of members with lower numbers
+abbrev pub hosts_below : {S : Type 0} → List (Host S) → ℕ → ℕ
+hosts_below hosts member = length (filter (λ h. nat_lt h.node.id member) hosts)
+
+-- the hosts with one more, behind those of members with lower numbers
+abbrev pub with_new : {S : Type 0} → List (Host S) → Host S → List (Host S)
+with_new hosts h = insert hosts (hosts_below hosts h.node.id) h
+
+-- the host of a new node of a member, in the view that the group begins with
+abbrev pub new_host : {S : Type 0} → Meaning S → World S → ℕ → Host S
+new_host m w member = host_of_node (opened (outset_of m w.view w.period member))
+
+-- the world with a new node of a member, by the index of the member's host; nothing happens if the member has one, or the number is no member's
+abbrev pub adds_unless : {S : Type 0} → Course S → ℕ → World S → Option ℕ → World S
+adds_unless course member w (Some i) = w
+adds_unless course member w None = if is_name member then record w { hosts = with_new w.hosts (new_host course.meaning w member) } else w
+
+-- the world after a new node of a member was added
+unfoldable pub adds_node : {S : Type 0} → Course S → ℕ → World S → World S
+adds_node course member w = if is_halted w then w else adds_unless course member w (host_index w.hosts member)
+
+-- the first clients
 
 -- clients that have not asked: so many, from a number on
 unfoldable pub clients_from : ℕ → ℕ → List Client

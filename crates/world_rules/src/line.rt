@@ -103,6 +103,11 @@ pub enum Line {
     /// `show`: the place, view and regency of each member. Of each client that has asked, also the
     /// greatest place that it knows.
     Show,
+    /// `node M`: a new node of a member that has none. It is in the view that the group begins with, in
+    /// which it is no member. Its devices hold nothing.
+    Node {
+        member: MemberId,
+    },
     /// `faulty M`: the member is faulty from now on, and its node is gone.
     Faulty {
         member: MemberId,
@@ -216,8 +221,8 @@ pub enum Kind {
     Number,
     /// Any other wrong word.
     Form,
-    /// A message or a member that is not there, a message that is not of that kind, or an injection
-    /// whose batch passes its limit.
+    /// A message or a member that is not there, a message that is not of that kind, a new node of a
+    /// member that has one, or an injection whose batch passes its limit.
     Refer,
 }
 

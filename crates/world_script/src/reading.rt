@@ -2,7 +2,7 @@
 ghost use Rattle.std.specs.Prelude.{◌≡◌, ◌&&◌, ◌<◌, ◌≤◌, nat_le, Ok, Err, IfOk, IfSome, take, ◌+◌};
 ghost use Rattle.std.specs.List.{list_all};
 ghost use Rattle.smart_base.specs.declared.limits.TheConstants.{LINE_BYTES};
-ghost use Rattle.world_rules.specs.Scripts.{is_printed, is_short, is_nothing, number_in, member_of, client_of, each_word, party_of_word, ask_line, again_line, told_line, flow_line, give_line, deliver_line, tick_line, settle_line, disk_with, disk_line, show_line, faulty_line, rogue_line, form_by, injecting, line_by, line_of, members_from, view_for, group_words, group_line, app_line, is_period, period_words, period_line};
+ghost use Rattle.world_rules.specs.Scripts.{is_printed, is_short, is_nothing, number_in, member_of, client_of, each_word, party_of_word, ask_line, again_line, told_line, flow_line, give_line, deliver_line, tick_line, settle_line, disk_with, disk_line, show_line, node_line, faulty_line, rogue_line, form_by, injecting, line_by, line_of, members_from, view_for, group_words, group_line, app_line, is_period, period_words, period_line};
 ghost use Rattle.world_rules.specs.declared.line.Kind.{Kind};
 ghost use Rattle.world_script.specs.declared.fault.LineFault.TheVariants as faults;
 
@@ -254,6 +254,15 @@ fn show_line(words: Words<'_>) -> Result<Line, Kind>
 }
 
 /// One member's number.
+fn node_line(words: Words<'_>) -> Result<Line, Kind>
+    ensures { result ≡ node_line words.entry }
+{
+    let word = words.only().ok_or(Kind::Count)?;
+    let member = member_of(word).ok_or(Kind::Number)?;
+    Ok(Line::Node { member })
+}
+
+/// One member's number.
 fn faulty_line(words: Words<'_>) -> Result<Line, Kind>
     ensures { result ≡ faulty_line words.entry }
 {
@@ -315,6 +324,8 @@ fn line_by(alloc: Global, bytes: &[u8], words: Words<'_>) -> Result<Result<Line,
         Ok(restart_line(words))
     } else if same_bytes(word, b"show") {
         Ok(show_line(words))
+    } else if same_bytes(word, b"node") {
+        Ok(node_line(words))
     } else if same_bytes(word, b"faulty") {
         Ok(faulty_line(words))
     } else if same_bytes(word, b"rogue") {

@@ -122,7 +122,8 @@ fn has_client(clients: &[ClientId], client: ClientId) -> bool
     clients.iter().any(|x| *x == client)
 }
 
-fn first_host<S: Service>(
+/// The host of a new node of a member, in a view. Error: want of memory.
+pub fn first_host<S: Service>(
     alloc: Global,
     view: &View,
     period: u32,

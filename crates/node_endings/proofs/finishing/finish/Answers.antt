@@ -43,6 +43,15 @@ returns-clause-lane g c = (
   (c.rejoin-lane.ensures.numbers.1, c.rejoin-lane.ensures.numbers.2),
 )
 
+pub returns-clause-ends : goal.returns-clause-ends
+returns-clause-ends g c = (
+  omega (arith, c.into_parts-core.ensures.firm, c.rejoin-lane.ensures.numbers.0),
+  omega (arith, c.into_parts-core.ensures.needs, c.rejoin-lane.ensures.numbers.0),
+)
+
+pub returns-clause-counts : goal.returns-clause-counts
+returns-clause-counts g c = c.rejoin-lane.ensures.taken ∙ ap (λ (l : LaneOut (List ℕ)). length (lane_taken l)) c.into_parts-outward.ensures.lane.0
+
 pub returns-clause-took : goal.returns-clause-took
 returns-clause-took g c =
     let joined = c.rejoin-lane.ensures in
@@ -66,7 +75,7 @@ returns-clause-all_came g c = λ over same.
     let joined = c.rejoin-came.ensures in
     let trail = ap (λ t. t.items) c.into_parts-core.ensures.trail in
     let all : put ≡ taken = all_taken taken joined.order.0 put joined.order.1 (sym joined.taken ∙ same ∙ joined.put) in
-    ap arrivals trail ∙ sym (all ∙ (parts.ensures.all over).0)
+    ap arrivals trail ∙ sym (all ∙ (parts.ensures.all (parts.ensures.cut.1 over)).0)
 
 pub returns-clause-left : goal.returns-clause-left
 returns-clause-left g c =
@@ -86,7 +95,7 @@ returns-clause-all_left g c = λ over same.
     let joined = c.rejoin-left.ensures in
     let trail = ap (λ t. t.items) c.into_parts-core.ensures.trail in
     let all : put ≡ taken = all_taken taken joined.order.0 put joined.order.1 (sym joined.taken ∙ same ∙ joined.put) in
-    ap payloads trail ∙ sym (parts.ensures.all over).1.0 ∙ all
+    ap payloads trail ∙ sym (parts.ensures.all (parts.ensures.cut.1 over)).1.0 ∙ all
 
 pub returns-clause-text : goal.returns-clause-text
 returns-clause-text g c =
@@ -100,4 +109,4 @@ returns-clause-all_text g c = λ over.
     let parts = c.into_parts-inner in
     let place = g.P.Place in
     let trail = ap (λ t. t.items) c.into_parts-core.ensures.trail in
-    subst (λ (es : List TrailEvent). Appends place.begun (g.O.Sink.written parts.result.sink) (trail_text place.head place.entries es)) (sym trail) (parts.ensures.all over).1.1
+    subst (λ (es : List TrailEvent). Appends place.begun (g.O.Sink.written parts.result.sink) (trail_text place.head place.entries es)) (sym trail) (parts.ensures.all (parts.ensures.cut.1 over)).1.1

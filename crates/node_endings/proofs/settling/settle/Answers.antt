@@ -16,13 +16,14 @@ returns-in-Ok g c = record {
       let settled : IsSettled (replay step opening s.inner.trail.items) =
       record {
         none_waits = sym (c.waits.ensures stuck) ∙ c.if-waits.false;
-        all_firm = c.is_firm.ensures (search rules) stuck;
+        all_firm = (c.is_firm.ensures stuck).0 (search rules);
         none_leaves = sent.1;
       } in (
         c.in-Ok.ensures.ok.1,
         record {
           before = c.send.new.self.inner.trail.items;
           is = c.in-Ok.ensures.ok.0;
+          last = c.end.new.self.inner.end_last;
           settled = subst (λ (l : List TrailEvent). IsSettled (replay step opening l)) (sym {A = List TrailEvent} sent.0) settled;
         },
       );

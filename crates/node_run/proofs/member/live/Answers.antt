@@ -5,14 +5,14 @@ use Rattle.node_run.specs.Rounds.{IsLeftBy}
 use Rattle.node_run.specs.declared.status.NodeStatus.TheVariants as ends
 use Rattle.node_run.proofs.Closing.{not-stored}
 use Rattle.node_run.proofs.Refused.{for-trail, none-fell, trail-else, trail-failed}
-use Rattle.node_run.proofs.Running.{stays}
+use Rattle.node_run.proofs.Running.{keeps-trails, stays}
 use Rattle.node_run.proofs.member.live.Goals as goal
 
 -- ---- no memory for the head or for the wires
 
 pub returns-in_default-clause-ended : goal.returns-in_default-clause-ended
 returns-in_default-clause-ended g c = λ images.
-    inl (record { none = record { why = tt; unread = refl; unwritten = refl }; same = λ told. stays g.D.Disk.cells c.args.store.disks c.into_disks.result c.into_disks.ensures })
+    inl (record { none = record { why = tt; unread = refl; unwritten = refl; trails = record { kept = refl; taken = refl } }; same = λ told. stays g.D.Disk.cells c.args.store.disks c.into_disks.result c.into_disks.ensures })
 
 pub returns-in_default-clause-later : goal.returns-in_default-clause-later
 returns-in_default-clause-later g c = none-fell g.D.Disk.faults c.args.store.disks c.into_disks.result c.into_disks.ensures
@@ -38,11 +38,16 @@ returns-in-Err-clause-ended g c = λ images.
       written_after = g.W.Sink.written c.args.output.now;
       sink = g.row.T-Sink.Denot;
       text_of = g.T.Sink.Sink.written;
-      trails_after = g.T.TrailRoom.kept c.get.new.self;
+      trails = record {
+        before = g.T.TrailRoom.kept c.args.trails.now;
+        after = g.T.TrailRoom.kept c.get.new.self;
+        taken_before = g.T.TrailRoom.taken c.args.trails.now;
+        taken_after = g.T.TrailRoom.taken c.get.new.self;
+      };
     } in
     inl
     (record {
-      none = for-trail r c.trail_status.result refl refl c.in-Err.fault c.trail_status.ensures;
+      none = for-trail r c.trail_status.result refl refl (record { kept = c.in-Err.ensures.refused.1; taken = c.in-Err.ensures.refused.0 }) c.in-Err.fault c.trail_status.ensures;
       same = λ told. stays g.D.Disk.cells c.args.store.disks c.into_disks-in-Err.result c.into_disks-in-Err.ensures;
     })
 
@@ -80,8 +85,13 @@ returns-in-Ok-get-clause-ended g c = λ images.
         empty = c.in-Ok-get.ensures.empty;
         told = c.run_life-store.result.sink;
         trail = rw c.as_slice-dir.ensures at c.keep.ensures.text;
+        keeps = keeps-trails c.args.settings.now (g.T.TrailRoom.kept c.args.trails.now) (g.T.TrailRoom.kept c.get.new.self) (g.T.TrailRoom.kept c.keep.new.self)
+            (g.T.TrailRoom.taken c.args.trails.now) (g.T.TrailRoom.taken c.get.new.self) (g.T.TrailRoom.taken c.keep.new.self)
+            (rw c.as_slice-dir.ensures at c.in-Ok-get.ensures.others) (rw c.as_slice-dir.ensures at c.keep.ensures.others)
+            (rw c.as_slice-dir.ensures at c.in-Ok-get.ensures.others_taken) (rw c.as_slice-dir.ensures at c.keep.ensures.others_taken)
+            (rw c.as_slice-dir.ensures at c.in-Ok-get.ensures.free) (rw c.as_slice-dir.ensures at c.keep.ensures.back);
         life = ended.end;
-        rounds = subst (λ (restored : ℕ). IsLeftBy g.D.Disk.told g.D.Disk.remembers g.D.Disk.cells g.D.Disk.moment g.D.Disk.left_since g.S.Service.meaning c.args.core.node ended.end.lived.trail restored ended.begun c.run_life-store.result.store) c.requires.restored ended.left_by;
+        rounds = subst (λ (restored : ℕ). IsLeftBy g.D.Disk.told g.D.Disk.remembers g.D.Disk.cells g.D.Disk.moment g.D.Disk.left_since g.S.Service.meaning c.args.core.node ended.end.lived.trail restored c.run_life-store.result.status ended.begun c.run_life-store.result.store) c.requires.restored ended.left_by;
       };
     })
 

@@ -44,7 +44,12 @@ returns-in-Ok-clause-ended g c =
       written_after = g.W.Sink.written c.over_store.new.output;
       sink = g.row.T-Sink.Denot;
       text_of = g.T.Sink.Sink.written;
-      trails_after = g.T.TrailRoom.kept c.over_store.new.trails;
+      trails = record {
+        before = g.T.TrailRoom.kept c.args.trails.now;
+        after = g.T.TrailRoom.kept c.over_store.new.trails;
+        taken_before = g.T.TrailRoom.taken c.args.trails.now;
+        taken_after = g.T.TrailRoom.taken c.over_store.new.trails;
+      };
     } in
     over-opened r c.args.disks c.in-Ok.store.disks c.over_store.result.disks c.over_store.result.status c.in-Ok.ensures.same
     (c.over_store.ensures.ended (contents g.D.Disk.cells c.args.disks) c.in-Ok.ensures.kept
@@ -84,9 +89,14 @@ returns-in-Err-clause-ended g c =
       written_after = g.W.Sink.written c.args.output.now;
       sink = g.row.T-Sink.Denot;
       text_of = g.T.Sink.Sink.written;
-      trails_after = g.T.TrailRoom.kept c.args.trails.now;
+      trails = record {
+        before = g.T.TrailRoom.kept c.args.trails.now;
+        after = g.T.TrailRoom.kept c.args.trails.now;
+        taken_before = g.T.TrailRoom.taken c.args.trails.now;
+        taken_after = g.T.TrailRoom.taken c.args.trails.now;
+      };
     } in
-    inl (record { none = for-store r c.store_status.result refl refl c.in-Err.fault c.store_status.ensures; same = c.in-Err.ensures.back })
+    inl (record { none = for-store r c.store_status.result refl refl (record { kept = refl; taken = refl }) c.in-Err.fault c.store_status.ensures; same = c.in-Err.ensures.back })
 
 pub returns-in-Err-clause-read : goal.returns-in-Err-clause-read
 returns-in-Err-clause-read g c e = absurd (store-else c.in-Err.fault ends.ReadFault (λ e. cc) (λ e. cc) (sym c.store_status.ensures ∙ e))

@@ -38,7 +38,12 @@ returns-in-Ok-clause-ended g c = λ images restored opens.
       written_after = g.W.Sink.written c.live.new.output;
       sink = g.row.T-Sink.Denot;
       text_of = g.T.Sink.Sink.written;
-      trails_after = g.T.TrailRoom.kept c.live.new.trails;
+      trails = record {
+        before = g.T.TrailRoom.kept c.args.trails.now;
+        after = g.T.TrailRoom.kept c.live.new.trails;
+        taken_before = g.T.TrailRoom.taken c.args.trails.now;
+        taken_after = g.T.TrailRoom.taken c.live.new.trails;
+      };
     } in
     run-over r c.args.kept restored c.parts_in-parts.result c.parts_in-parts.ensures c.in-Ok.core.node c.args.store opens c.live.result.disks c.live.result.status c.in-Ok.ensures.whole c.in-Ok.ensures.node (c.live.ensures.ended images)
 
@@ -63,11 +68,16 @@ returns-clause-ended g c = λ images restored opens.
       written_after = g.W.Sink.written c.args.output.now;
       sink = g.row.T-Sink.Denot;
       text_of = g.T.Sink.Sink.written;
-      trails_after = g.T.TrailRoom.kept c.args.trails.now;
+      trails = record {
+        before = g.T.TrailRoom.kept c.args.trails.now;
+        after = g.T.TrailRoom.kept c.args.trails.now;
+        taken_before = g.T.TrailRoom.taken c.args.trails.now;
+        taken_after = g.T.TrailRoom.taken c.args.trails.now;
+      };
     } in
     inl
     (record {
-      none = for-restored r c.restore_status.result refl refl c.in-Err.fault
+      none = for-restored r c.restore_status.result refl refl (record { kept = refl; taken = refl }) c.in-Err.fault
           (λ entry is. is-refused r c.args.kept restored c.parts_in-parts.result c.parts_in-parts.ensures entry (c.in-Err.ensures.cause entry (ap (λ (f : RestoreFault). Err f) is)))
           c.restore_status.ensures;
       same = λ told. stays g.D.Disk.cells c.args.store.disks c.into_disks.result c.into_disks.ensures;

@@ -1,4 +1,5 @@
 use Rattle.std.proofs.Common.{◌≡◌, ◌∙◌, refl, sym}
+use Rattle.disk_model.specs.Cells.{Cells}
 use Rattle.durable_store.specs.Disks.{contents}
 use Rattle.member_opening.specs.Devices.{images_at}
 use Rattle.node_endings.proofs.Faults.{rose_after}
@@ -32,9 +33,14 @@ returns-in-Ok-clause-ended g c =
       written_after = g.W.Sink.written c.over_disks-disks.new.output;
       sink = g.row.T-Sink.Denot;
       text_of = g.T.Sink.Sink.written;
-      trails_after = g.T.TrailRoom.kept c.over_disks-disks.new.trails;
+      trails = record {
+        before = g.T.TrailRoom.kept c.args.trails.now;
+        after = g.T.TrailRoom.kept c.over_disks-disks.new.trails;
+        taken_before = g.T.TrailRoom.taken c.args.trails.now;
+        taken_after = g.T.TrailRoom.taken c.over_disks-disks.new.trails;
+      };
     } in
-    let room : Room =
+    let room : Room Cells =
     record {
       before = g.M.DiskRoom.cells c.args.room.now;
       after = g.M.DiskRoom.cells c.put_back.new.room;
@@ -74,9 +80,14 @@ returns-in-Err-clause-ended g c =
       written_after = g.W.Sink.written c.args.output.now;
       sink = g.row.T-Sink.Denot;
       text_of = g.T.Sink.Sink.written;
-      trails_after = g.T.TrailRoom.kept c.args.trails.now;
+      trails = record {
+        before = g.T.TrailRoom.kept c.args.trails.now;
+        after = g.T.TrailRoom.kept c.args.trails.now;
+        taken_before = g.T.TrailRoom.taken c.args.trails.now;
+        taken_after = g.T.TrailRoom.taken c.args.trails.now;
+      };
     } in
-    let room : Room =
+    let room : Room Cells =
     record {
       before = g.M.DiskRoom.cells c.args.room.now;
       after = g.M.DiskRoom.cells c.take_devices.new.room;
@@ -88,7 +99,7 @@ returns-in-Err-clause-ended g c =
       beside_taken = rw c.as_slice-dir.ensures at c.in-Err.ensures.beside_taken;
       back = rw c.as_slice-dir.ensures at c.in-Err.ensures.back;
     } in
-    not-had r room c.room_status.result c.in-Err.fault c.room_status.ensures keeps (rw c.as_slice-dir.ensures at c.in-Err.ensures.torn) (for-room r c.room_status.result refl refl c.in-Err.fault c.room_status.ensures)
+    not-had r room c.room_status.result c.in-Err.fault c.room_status.ensures keeps (rw c.as_slice-dir.ensures at c.in-Err.ensures.torn) (for-room r c.room_status.result refl refl (record { kept = refl; taken = refl }) c.in-Err.fault c.room_status.ensures)
 
 pub returns-in-Err-clause-read : goal.returns-in-Err-clause-read
 returns-in-Err-clause-read g c e = absurd (room-else c.in-Err.fault ends.ReadFault (λ e. cc) (λ e. cc) (sym c.room_status.ensures ∙ e))

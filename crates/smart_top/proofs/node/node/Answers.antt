@@ -22,7 +22,7 @@ pub returns-in-Ok-clause-words : goal.returns-in-Ok-clause-words
 returns-in-Ok-clause-words g c = λ is. never_words _ (sym c.status_by.ensures ∙ is)
 
 pub returns-in-Err-clause-ended : goal.returns-in-Err-clause-ended
-returns-in-Err-clause-ended g c = unread_node _ _ refl refl refl refl
+returns-in-Err-clause-ended g c = unread_node _ _ refl refl refl refl refl refl
 
 pub returns-in-Ok-clause-complete : goal.returns-in-Ok-clause-complete
 returns-in-Ok-clause-complete g c = λ input told sound read write trail disk. node_is_complete _ _ input told sound _ (λ is. read (c.run_member-status.ensures.read (read_failed _ (sym c.status_by.ensures ∙ is))))

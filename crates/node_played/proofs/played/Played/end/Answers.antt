@@ -3,7 +3,7 @@ use Rattle.log_lane.specs.Lane.{lane_read}
 use Rattle.node_rules.specs.Nodes.{Node}
 use Rattle.trail.specs.declared.event.TrailEvent.{TrailEvent}
 use Rattle.trail.specs.declared.event.TrailEvent.TheVariants.{End}
-use Rattle.node_played.proofs.Grown.{replayed_end, needed_end, released_end}
+use Rattle.node_played.proofs.Grown.{replayed_end, needed_end, released_end, last_by, ends_by}
 use Rattle.node_played.specs.Lives.{made_texts}
 use Rattle.node_played.proofs.played.Played.end.Goals as goal
 
@@ -22,4 +22,6 @@ invariant_of-self-2 g c =
       needs = subst (λ (n : ℕ). n ≤ g.P.Home.restored + lane_read s.lane) (sym (needed_end m opening s.trail.items _ longer)) s.needs;
       released = released_end m opening s.trail.items _ longer s.released;
       named = s.named;
+      ends = ends_by s.trail.items _ longer;
+      end_last = last_by s.trail.items _ End longer c.requires.going;
     }

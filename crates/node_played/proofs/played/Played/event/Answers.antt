@@ -1,8 +1,8 @@
-use Rattle.std.proofs.Common.{◌+◌, ℕ, List, [], ◌∷◌, ◌++◌, ap, ◌∙◌}
+use Rattle.std.proofs.Common.{◌+◌, ℕ, List, [], ◌∷◌, ◌++◌, refl, sym, ap, ◌∙◌}
 use Rattle.log_lane.specs.Lane.{lane_put, lane_read}
 use Rattle.trail.specs.declared.event.TrailEvent.{TrailEvent}
 use Rattle.trail.specs.declared.event.TrailEvent.TheVariants.{Happens}
-use Rattle.node_played.proofs.Grown.{kept_by, restored_by, few_by, put_by, firm_by, needs_by, released_by, texts_are, room_for}
+use Rattle.node_played.proofs.Grown.{kept_by, restored_by, few_by, put_by, firm_by, needs_by, released_by, goes_by, last_by, texts_are, room_for}
 use Rattle.node_played.proofs.played.Played.event.Goals as goal
 
 pub invariant_of-self-2 : goal.invariant_of-self-2
@@ -24,6 +24,8 @@ invariant_of-self-2 g c =
       needs = needs_by m opening s.trail.items _ event longer (restored + lane_read s.lane) _ s.needs (ap (λ (n : ℕ). restored + n) c.put_all.ensures.same.0);
       released = released_by m opening s.trail.items _ event longer s.released;
       named = c.put_all.ensures.lane ∙ s.named;
+      ends = s.ends ∙ c.requires.going ∙ sym (goes_by s.trail.items _ (Happens event) longer c.requires.going refl);
+      end_last = last_by s.trail.items _ (Happens event) longer c.requires.going;
     }
 
 pub put_all-requires : goal.put_all-requires

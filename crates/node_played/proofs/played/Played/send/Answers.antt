@@ -1,9 +1,9 @@
-use Rattle.std.proofs.Common.{◌≡◌, ◌≤◌, ◌+◌, List, [], ◌∷◌, ◌++◌, length, ap, sym, ◌∙◌}
+use Rattle.std.proofs.Common.{◌≡◌, ◌≤◌, ◌+◌, List, [], ◌∷◌, ◌++◌, length, refl, ap, sym, ◌∙◌}
 use Rattle.log_lane.specs.Lane.{lane_put, lane_read}
 use Rattle.trail.specs.declared.event.Addressed.{Addressed}
 use Rattle.trail.specs.declared.event.TrailEvent.{TrailEvent}
 use Rattle.trail.specs.declared.event.TrailEvent.TheVariants.{Send}
-use Rattle.node_played.proofs.Grown.{kept_on, same_on, needs_on, released_on, releases}
+use Rattle.node_played.proofs.Grown.{kept_on, same_on, needs_on, released_on, releases, goes_by, last_by}
 use Rattle.node_played.specs.Lives.{made_texts}
 use Rattle.node_played.proofs.played.Played.send.Goals as goal
 
@@ -24,4 +24,6 @@ invariant_of-self-2 g c =
       needs = needs_on m opening s.trail.items _ a longer (restored + lane_read s.lane) s.firm s.needs;
       released = released_on m opening s.trail.items _ a longer (releases _ _ a c.in-Some.held was.1 c.in-Some.ensures.held (sym c.addressed_of.ensures.to) (sym c.addressed_of.ensures.message)) s.released;
       named = s.named;
+      ends = s.ends ∙ c.requires.going ∙ sym (goes_by s.trail.items _ (Send a) longer c.requires.going refl);
+      end_last = last_by s.trail.items _ (Send a) longer c.requires.going;
     }

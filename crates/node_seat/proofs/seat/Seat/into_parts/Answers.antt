@@ -4,6 +4,7 @@ pub invariant_of-self : goal.invariant_of-self
 invariant_of-self g c =
     let s = c.args.self in record {
       whole = s.whole;
+      uncut = s.uncut;
       came = s.came;
       all_came = s.all_came;
       left = s.left;

@@ -1,4 +1,4 @@
-use Rattle.std.proofs.Common.{◌≡◌, ◌∙◌, sym, ap, subst, true≢false}
+use Rattle.std.proofs.Common.{◌≡◌, ◌∙◌, refl, sym, ap, subst, true≢false}
 use Rattle.group_links.specs.Link.{link_put, link_taken}
 use Rattle.std.specs.Io.KnownBytes.{Appends}
 use Rattle.trail.specs.Trails.{trail_text}
@@ -17,6 +17,7 @@ invariant_of-result g c =
     let left : link_put a.to ≡ payloads new = c.requires.to.1 ∙ sym (ap payloads none) in
     let text = subst (λ es. Appends place.begun (g.O.Sink.written a.sink) (trail_text place.head place.entries es)) (sym none) c.requires.sink in record {
       whole = λ _. c.requires.inner.1;
+      uncut = λ _. refl;
       came = first-same (arrivals new) (link_taken a.from) came;
       all_came = λ _. came;
       left = first-same (link_put a.to) (payloads new) (sym left);
