@@ -1,0 +1,4 @@
+pub mod Carried
+pub mod Facts
+pub mod Journals
+pub mod Ports
