@@ -1,5 +1,5 @@
--- What a client's trail says of it: the client that its events make, what it asked, and what it accepted.
-use Rattle.std.proofs.Common.{◌≡◌, ℕ, ◌+◌, ◌==◌, cond, List, [], ◌∷◌, ◌++◌, Option, Some, None}
+-- What a client's trail says of it: the client that its events make, what it asked and accepted, and what its links carry.
+use Rattle.std.proofs.Common.{◌≡◌, ℕ, ◌+◌, ◌==◌, cond, List, [], ◌∷◌, ◌++◌, get_or, Option, Some, None}
 use Rattle.std.proofs.Props.{props}
 use Rattle.std.specs.Option.{option_to_list}
 use Rattle.smart_base.specs.Views.{View}
@@ -17,6 +17,7 @@ use Rattle.client_quorum.specs.declared.client.Acceptance.{Acceptance}
 use Rattle.client_quorum.specs.declared.client.Client.{Client}
 use Rattle.node_rules.specs.declared.node.Target.{Target}
 use Rattle.node_rules.specs.declared.node.Target.TheVariants as targets
+use Rattle.group_ends.specs.Carried.{carried}
 use Rattle.trail.specs.declared.event.Addressed.{Addressed}
 use Rattle.trail.specs.declared.event.TrailEvent.{TrailEvent}
 use Rattle.trail.specs.declared.event.TrailEvent.TheVariants.{Happens, Send, Lost, Polls, End}
@@ -95,6 +96,12 @@ accepted_by secret view c End = None
 abbrev pub acceptances : List ℕ → View → Client → List TrailEvent → List Acceptance
 acceptances secret view c [] = []
 acceptances secret view c (e ∷ events) = option_to_list (accepted_by secret view c e) ++ acceptances secret view (client_after secret view c e) events
+
+-- ---- links
+
+-- what a trail sends to the end of the link at an index, and does not tell as lost
+abbrev pub carried_at : List Target → ℕ → List TrailEvent → List (List ℕ)
+carried_at ends index events = carried (get_or ends index targets.View) events
 
 -- ---- polls
 

@@ -14,8 +14,10 @@ use group_ends::journal::{Journal, JournalParts};
 use group_ends::owner::Owner;
 use group_ends::port::Port;
 use group_ends::posting::{Parcel, post};
+use group_ends::sending::tell_at;
 use group_links::outward::LinkOut;
 use node_rules::node::Target;
+use queue_ends::told::Told;
 use smart_base::bytes::Payload;
 use smart_base::name::ClientId;
 use smart_base::sequence::Bytes;
@@ -55,6 +57,7 @@ pub struct ClientSeat<P: Owner, O: Sink> {
     pub(crate) over: bool,
     pub ghost number: { journal.number ≡ 0 },
     pub ghost whole: { over ≡ false → journal.whole ≡ true },
+    pub ghost head: { ((P.head 0).member ≡ 0) × (((P.head 0).entries ≡ 0) × (P.entries 0 ≡ [])) },
     pub ghost group: { (ring ≡ (P.head 0).secret) × (view ≡ (P.head 0).view) },
     pub ghost kept: { over ≡ false → client ≡ client_of (P.head 0).secret (P.head 0).view (fresh 1) journal.events.items },
     pub ghost asks: { Asks (P.head 0).secret (P.head 0).view (fresh 1) journal.events.items } by { asks_prop (P.head 0).secret (P.head 0).view (fresh 1) journal.events.items },
@@ -108,23 +111,25 @@ fn ask_of(request: Signed<Request>) -> Addressed
 }
 
 impl<P: Owner, O: Sink> ClientSeat<P, O> {
-    ghost use Rattle.std.specs.Prelude.{◌≡◌, ◌≤◌, ◌<◌, ◌+◌, ◌-◌, ◌^◌, ◌++◌, ◌∷◌, ◌⊎◌, [], ℕ, List, min, false, true, None, Some, is_some, if◌then◌else◌, IfOk, OnOk, OnErr, IsErrOf, MatchOption};
+    ghost use Rattle.std.specs.Prelude.{◌≡◌, ◌≤◌, ◌<◌, ◌+◌, ◌-◌, ◌^◌, ◌++◌, ◌∷◌, ◌⊎◌, [], ℕ, List, length, get_or, slice_set, min, false, true, None, Some, is_some, if◌then◌else◌, IfOk, OnOk, OnErr, IsErrOf, MatchOption};
     ghost use Rattle.std.specs.Io.KnownBytes.{Appends};
     ghost use Rattle.faults.specs.Counts.{Rose};
     ghost use Rattle.smart_base.specs.Lists.{Each};
     ghost use Rattle.smart_statements.specs.declared.entry.NodeEvent.TheVariants.{Arrive};
     ghost use Rattle.client_quorum.specs.Clients.{fresh, request_of, asking, heard_bytes};
     ghost use Rattle.trail.specs.Trails.{trail_text};
-    ghost use Rattle.trail_rules.specs.Replays.{sends};
     ghost use Rattle.trail.specs.declared.event.TrailEvent.TheVariants.{Happens, End};
+    ghost use Rattle.queue_ends.specs.Ends.{told_put, told_queue};
+    ghost use Rattle.queue_ends.specs.Rule.{IsFront};
     ghost use Rattle.group_ends.specs.Carried.{DropsLate};
     ghost use Rattle.group_ends.specs.Facts.{HasCome};
-    ghost use Rattle.group_ends.specs.Journals.{HasFront};
-    ghost use Rattle.group_ends.specs.Ports.{ends, port_links, inbox_links, takings, heard_and_taken, AreApart, Carries, CarriesFirst, IsPosted, IsEmptied};
-    ghost use Rattle.client_seat.specs.Asks.{client_of, ask_by, Asks, polls_since, told_polls};
+    ghost use Rattle.group_ends.specs.Journals.{HasFront, has_end, IsEndLast};
+    ghost use Rattle.group_ends.specs.Ports.{ends, port_links, inbox_links, takings, heard_puts, heard_and_taken, AreApart, Carries, CarriesFirst, IsPosted, IsEmptied};
+    ghost use Rattle.client_seat.specs.Asks.{carried_at, client_of, ask_by, Asks, polls_since, told_polls};
 
     /// A client that has not asked, over the client's journal of nothing, links on which nothing was put, and
-    /// links from which nothing was taken.
+    /// links from which nothing was taken. The head of its trail is a client's: it has number 0, and nothing
+    /// was restored.
     pub fn new(
         alloc: Global,
         ring: Ring,
@@ -133,6 +138,7 @@ impl<P: Owner, O: Sink> ClientSeat<P, O> {
         ports: Vec<Port>,
         inbox: Inbox,
     ) -> ClientSeat<P, O>
+        requires head { ((P.head 0).member ≡ 0) × (((P.head 0).entries ≡ 0) × (P.entries 0 ≡ [])) }
         requires group { (ring ≡ (P.head 0).secret) × (view ≡ (P.head 0).view) }
         requires journal { (journal.number ≡ 0) × (journal.events.items ≡ []) × (journal.whole ≡ true) }
         requires ports { AreApart (ends ports.items) × Each (Carries []) ports.items }
@@ -163,6 +169,14 @@ impl<P: Owner, O: Sink> ClientSeat<P, O> {
         self.over
     }
 
+    /// Whether an event may be played: no call has failed, and the trail has not ended.
+    pub fn goes_on(&self) -> bool
+        ensures goes { result ≡ true → (self.now.over ≡ false) × (has_end self.now.journal.events.items ≡ false) }
+        ensures only { self.now.over ≡ false → has_end self.now.journal.events.items ≡ false → result ≡ true }
+    {
+        !self.over && !self.journal.has_ended()
+    }
+
     /// Whether a request waits for its reply.
     pub fn waits(&self) -> bool
         ensures { result ≡ is_some self.now.client.waiting }
@@ -178,21 +192,49 @@ impl<P: Owner, O: Sink> ClientSeat<P, O> {
     }
 
     /// How many polls found nothing since the last message was sent, at most 2^64 - 1: those that the trail
-    /// tells, and those since the last event.
+    /// tells, and those that it does not tell yet.
     pub fn polls(&self) -> u64
         ensures { result ≡ min (polls_since 0 self.now.journal.events.items + self.now.idle) (2 ^ 64 - 1) }
     {
         self.told.saturating_add(self.idle)
     }
 
-    /// Polls each of the links once, until one has a message, and says whether one has. It is to be played
-    /// next. `false`: each was empty at a moment of its own, and the poll is counted.
+    /// Hears what was put on the link at an index, of those that are polled.
+    pub fn hear(&mut self, index: usize, told: Told<Bytes>)
+        requires within { index < length (P.arriving 0) }
+        requires link { told_queue told ≡ get_or (P.arriving 0) index (told_queue told) }
+        ensures heard { heard_puts self.new.inbox.links.items ≡ slice_set (heard_puts self.old.inbox.links.items) index (told_put told) }
+        ensures taken { takings self.new.inbox.links.items ≡ takings self.old.inbox.links.items }
+        ensures same { (self.new.journal ≡ self.old.journal) × ((self.new.over ≡ self.old.over) × (self.new.client ≡ self.old.client)) }
+        ensures polled { (self.new.pending ≡ self.old.pending) × (self.new.idle ≡ self.old.idle) }
+    {
+        self.inbox.hear(index, told);
+    }
+
+    /// Tells what was put so far on the link at an index, of those on which the client sends: what the trail
+    /// sends to its end without a Lost. Once a call has failed it may be a front of that.
+    pub fn tell(&mut self, index: usize) -> Told<Bytes>
+        requires within { index < length (P.receivers 0) }
+        ensures link { told_queue result ≡ get_or (P.leaving 0) index (told_queue result) }
+        ensures told { self.old.over ≡ false → told_put result ≡ carried_at (P.receivers 0) index self.old.journal.events.items }
+        ensures first { IsFront (told_put result) (carried_at (P.receivers 0) index self.old.journal.events.items) }
+        ensures heard { self.new.inbox ≡ self.old.inbox }
+        ensures same { (self.new.journal ≡ self.old.journal) × ((self.new.over ≡ self.old.over) × (self.new.client ≡ self.old.client)) }
+        ensures polled { (self.new.pending ≡ self.old.pending) × (self.new.idle ≡ self.old.idle) }
+    {
+        tell_at(&mut self.ports, index)
+    }
+
+    /// Polls links in turn until one has a message, and says whether one has. It is to be played next.
+    /// `false`: each was empty at a moment of its own, so that all was taken that was heard to be put on it.
+    /// The poll is counted.
     pub fn poll<R: Wait>(&mut self, rt: &R) -> bool
         requires whole { self.old.over ≡ false }
         requires played { self.old.pending ≡ None }
         ensures same { (self.new.journal.events.items ≡ self.old.journal.events.items) × (self.new.over ≡ false) × (self.new.client ≡ self.old.client) }
         ensures found { result ≡ is_some self.new.pending }
         ensures empty { result ≡ false → Each IsEmptied (heard_and_taken self.old.inbox.links.items) }
+        ensures heard { heard_puts self.new.inbox.links.items ≡ heard_puts self.old.inbox.links.items }
         ensures idle { self.new.idle ≡ (if result then self.old.idle else min (self.old.idle + 1) (2 ^ 64 - 1)) }
     {
         match self.inbox.take(rt) {
@@ -210,12 +252,15 @@ impl<P: Owner, O: Sink> ClientSeat<P, O> {
     /// Notes the polls in a row that found nothing, if there were any. Errors: a failure of the trail's
     /// sink; want of memory. The seat is over then.
     pub fn tell_polls(&mut self) -> Result<(), Fault>
-        requires { self.old.over ≡ false }
+        requires whole { self.old.over ≡ false }
+        requires going { has_end self.old.journal.events.items ≡ false }
         ensures events { self.new.journal.events.items ≡ self.old.journal.events.items ++ told_polls self.old.idle }
-        ensures ok { OnOk result ((self.new.over ≡ false) × (self.new.idle ≡ 0)) }
-        ensures same { (self.new.client ≡ self.old.client) × (self.new.pending ≡ self.old.pending) }
+        ensures ok { OnOk result (self.new.over ≡ false) }
+        ensures going { has_end self.new.journal.events.items ≡ false }
+        ensures same { (self.new.client ≡ self.old.client) × ((self.new.pending ≡ self.old.pending) × (self.new.idle ≡ 0)) }
         ensures err { OnErr result (self.new.over ≡ true) }
-        ensures cause { IsErrOf result Fault.Failed → self.new.journal.failed ≡ true }
+        ensures heard { self.new.inbox ≡ self.old.inbox }
+        ensures cause { IsErrOf result Fault.Failed → (self.new.journal.failed ≡ true) × Rose (O.faults self.old.journal.sink) (O.faults self.new.journal.sink) }
     {
         if self.idle == 0 {
             return Ok(());
@@ -223,24 +268,28 @@ impl<P: Owner, O: Sink> ClientSeat<P, O> {
         let count = self.idle;
         self.over = true;
         self.told = self.told.saturating_add(count);
-        self.journal.note(TrailEvent::Polls(count))?;
         self.idle = 0;
+        self.journal.note(TrailEvent::Polls(count))?;
         self.over = false;
         Ok(())
     }
 
     /// Plays the message that was taken from a link, and says what the client made of it. `None`: there is
-    /// none. Errors: as at `tell_polls`.
+    /// none. Errors: as at `tell_polls`. The message has arrived by the trail then, or nothing has happened.
     pub fn play(&mut self) -> Result<Option<Heard>, Fault>
         requires whole { self.old.over ≡ false }
         requires told { self.old.idle ≡ 0 }
+        requires going { has_end self.old.journal.events.items ≡ false }
         ensures ok { IfOk result (λ found. MatchOption found
             ((self.old.pending ≡ None) × (self.new.journal.events.items ≡ self.old.journal.events.items))
             (λ heard. (bytes : List ℕ) × (self.old.pending ≡ Some bytes) × (heard ≡ heard_bytes (P.head 0).secret (P.head 0).view self.old.client bytes) × (self.new.journal.events.items ≡ self.old.journal.events.items ++ Happens (Arrive bytes) ∷ []))) }
         ensures played { OnOk result ((self.new.pending ≡ None) × (self.new.over ≡ false)) }
         ensures idle { self.new.idle ≡ 0 }
-        ensures err { OnErr result ((self.new.over ≡ true) × (sends self.new.journal.events.items ≡ sends self.old.journal.events.items)) }
-        ensures cause { IsErrOf result Fault.Failed → self.new.journal.failed ≡ true }
+        ensures going { has_end self.new.journal.events.items ≡ false }
+        ensures over { OnErr result (self.new.over ≡ true) }
+        ensures err { OnErr result ((self.new.journal.events.items ≡ self.old.journal.events.items) ⊎ ((bytes : List ℕ) × (self.old.pending ≡ Some bytes) × (self.new.journal.events.items ≡ self.old.journal.events.items ++ Happens (Arrive bytes) ∷ []))) }
+        ensures heard { self.new.inbox ≡ self.old.inbox }
+        ensures cause { IsErrOf result Fault.Failed → (self.new.journal.failed ≡ true) × Rose (O.faults self.old.journal.sink) (O.faults self.new.journal.sink) }
     {
         let Some(bytes) = self.pending.take() else {
             return Ok(None);
@@ -253,8 +302,8 @@ impl<P: Owner, O: Sink> ClientSeat<P, O> {
             self.pending = Some(bytes);
             return Err(Fault::NoMemory);
         };
-        self.journal
-            .note(TrailEvent::Happens(NodeEvent::Arrive(bytes)))?;
+        let arrived = TrailEvent::Happens(NodeEvent::Arrive(bytes));
+        self.journal.note(arrived)?;
         self.over = false;
         Ok(Some(heard))
     }
@@ -265,13 +314,16 @@ impl<P: Owner, O: Sink> ClientSeat<P, O> {
         requires whole { self.old.over ≡ false }
         requires waits { self.old.client.waiting ≡ None }
         requires told { self.old.idle ≡ 0 }
+        requires going { has_end self.old.journal.events.items ≡ false }
         requires few { self.old.client.last + 1 < 2 ^ 63 }
         ensures ok { OnOk result (IsPosted (ask_by (P.head 0).secret self.old.client op.now) (P.receivers 0) self.old.journal.events.items self.new.journal.events.items) }
         ensures client { OnOk result (self.new.client ≡ asking self.old.client (request_of self.old.client op.now)) }
         ensures whole { OnOk result (self.new.over ≡ false) }
         ensures same { (self.new.pending ≡ self.old.pending) × (self.new.idle ≡ 0) }
+        ensures going { has_end self.new.journal.events.items ≡ false }
         ensures err { OnErr result ((self.new.over ≡ true) × ((self.new.journal.events.items ≡ self.old.journal.events.items) ⊎ IsPosted (ask_by (P.head 0).secret self.old.client op.now) (P.receivers 0) self.old.journal.events.items self.new.journal.events.items)) }
-        ensures cause { IsErrOf result Fault.Failed → self.new.journal.failed ≡ true }
+        ensures heard { self.new.inbox ≡ self.old.inbox }
+        ensures cause { IsErrOf result Fault.Failed → (self.new.journal.failed ≡ true) × Rose (O.faults self.old.journal.sink) (O.faults self.new.journal.sink) }
     {
         self.over = true;
         let Ok(request) = self.client.ask(self.alloc, &self.ring, op) else {
@@ -286,15 +338,17 @@ impl<P: Owner, O: Sink> ClientSeat<P, O> {
         Ok(())
     }
 
-    /// Notes that the trail is whole. Errors: as at `tell_polls`.
+    /// Notes that the trail is whole. No event is played behind it. Errors: as at `tell_polls`.
     pub fn end(&mut self) -> Result<(), Fault>
         requires whole { self.old.over ≡ false }
         requires told { self.old.idle ≡ 0 }
+        requires going { has_end self.old.journal.events.items ≡ false }
         ensures events { self.new.journal.events.items ≡ self.old.journal.events.items ++ End ∷ [] }
         ensures same { (self.new.client ≡ self.old.client) × (self.new.pending ≡ self.old.pending) × (self.new.idle ≡ 0) }
         ensures ok { OnOk result (self.new.over ≡ false) }
         ensures err { OnErr result (self.new.over ≡ true) }
-        ensures cause { IsErrOf result Fault.Failed → self.new.journal.failed ≡ true }
+        ensures heard { self.new.inbox ≡ self.old.inbox }
+        ensures cause { IsErrOf result Fault.Failed → (self.new.journal.failed ≡ true) × Rose (O.faults self.old.journal.sink) (O.faults self.new.journal.sink) }
     {
         self.over = true;
         self.journal.note(TrailEvent::End)?;
@@ -317,6 +371,8 @@ impl<P: Owner, O: Sink> ClientSeat<P, O> {
         ensures all_text { result.over ≡ false → Appends (P.begun 0) (O.written result.journal.sink) (trail_text (P.head 0) (P.entries 0) result.journal.events.items) }
         ensures cause { result.journal.failed ≡ true → Rose (P.failures 0) (O.faults result.journal.sink) }
         ensures later { P.failures 0 ≤ O.faults result.journal.sink }
+        ensures end_last { IsEndLast result.journal.events.items }
+        ensures head { ((P.head 0).member ≡ 0) × (((P.head 0).entries ≡ 0) × (P.entries 0 ≡ [])) }
     {
         let ClientSeat {
             alloc: _,

@@ -1,5 +1,5 @@
 -- What a link carries by a trail that has more events.
-use Rattle.std.proofs.Common.{◌≡◌, ℕ, zero, suc, Bool, true, false, not, cond, ◌&&◌, ◌||◌, List, [], ◌∷◌, ◌++◌, length, take, refl, sym, ap, subst, ◌∙◌, true≢false, append-nil}
+use Rattle.std.proofs.Common.{◌≡◌, ℕ, zero, suc, Bool, true, false, not, cond, ◌&&◌, ◌||◌, List, [], ◌∷◌, ◌++◌, take, refl, sym, ap, subst, ◌∙◌, true≢false, append-nil}
 use Rattle.std.proofs.lemmas.Bool.{eqb-true, eq-eqb}
 use Rattle.smart_base.specs.Lists.{Each}
 use Rattle.smart_messages.specs.Messages.{spelling}
@@ -8,7 +8,7 @@ use Rattle.node_rules.specs.declared.node.Target.TheVariants.{Node, Client, View
 use Rattle.trail.specs.declared.event.Addressed.{Addressed}
 use Rattle.trail.specs.declared.event.TrailEvent.{TrailEvent}
 use Rattle.trail.specs.declared.event.TrailEvent.TheVariants.{Happens, Send, Lost, Polls, End}
-use Rattle.group_ends.specs.Carried.{same_target, is_for, is_lost, carried}
+use Rattle.group_ends.specs.Carried.{same_target, same_end, is_for, is_lost, carried}
 use Rattle.group_ends.specs.Ports.{IsApart, AreApart, added, losts}
 
 -- ---- receivers
@@ -28,6 +28,18 @@ same-is (Client a) View e = absurd (true≢false (sym e))
 same-is View (Node b) e = absurd (true≢false (sym e))
 same-is View (Client b) e = absurd (true≢false (sym e))
 same-is View View e = refl
+
+-- the ends of two links are two receivers
+pub end-apart : (s t : Target) → same_end s t ≡ false → same_target s t ≡ false
+end-apart (Node a) (Node b) e = e
+end-apart (Node a) (Client b) e = refl
+end-apart (Node a) View e = refl
+end-apart (Client a) (Node b) e = refl
+end-apart (Client a) (Client b) e = absurd (true≢false e)
+end-apart (Client a) View e = refl
+end-apart View (Node b) e = refl
+end-apart View (Client b) e = refl
+end-apart View View e = e
 
 -- apart from each other, told the other way round
 pub apart-back : (s t : Target) → same_target s t ≡ false → same_target t s ≡ false
@@ -165,13 +177,13 @@ matches-more : (end : Target) (a : Addressed) (lost : List TrailEvent) (ends : L
 matches-more end a lost [] ds to apart m = tt
 matches-more end a lost (other ∷ ends) [] to apart m = tt
 matches-more end a lost (other ∷ ends) (d ∷ ds) to apart m =
-    (ap (λ (t : Target). same_target t other || is_lost other lost) to ∙ ap (λ (b : Bool). b || is_lost other lost) apart.0 ∙ m.0, matches-more end a lost ends ds to apart.1 m.1)
+    (ap (λ (t : Target). same_target t other || is_lost other lost) to ∙ ap (λ (b : Bool). b || is_lost other lost) (end-apart end other apart.0) ∙ m.0, matches-more end a lost ends ds to apart.1 m.1)
 
 -- an end apart from others is not told to have dropped it
 pub not-there : (end : Target) (a : Addressed) (ends : List Target) (ds : List Bool) → IsApart end ends → is_lost end (losts a ends ds) ≡ false
 not-there end a [] ds apart = refl
 not-there end a (other ∷ ends) [] apart = refl
-not-there end a (other ∷ ends) (true ∷ ds) apart = ap (λ (b : Bool). b || is_lost end (losts a ends ds)) (apart-back end other apart.0) ∙ not-there end a ends ds apart.1
+not-there end a (other ∷ ends) (true ∷ ds) apart = ap (λ (b : Bool). b || is_lost end (losts a ends ds)) (apart-back end other (end-apart end other apart.0)) ∙ not-there end a ends ds apart.1
 not-there end a (other ∷ ends) (false ∷ ds) apart = not-there end a ends ds apart.1
 
 pub matches-losts : (a : Addressed) (ends : List Target) (ds : List Bool) → AreApart ends → Matches (losts a ends ds) ends ds

@@ -1,16 +1,13 @@
 -- What was taken from links, and what arrived by a trail.
 use Rattle.std.proofs.Common.{◌≡◌, ℕ, zero, suc, ◌+◌, ◌<◌, List, [], ◌∷◌, ◌++◌, length, filter, slice_set, get_or, refl, sym, ap, ◌∙◌, arith, append_assoc, append-nil, length-append}
-use Rattle.std.specs.Option.{option_to_list}
 use Rattle.std.proofs.lemmas.List.Elements.{filter-append}
 use Rattle.smart_base.specs.Lists.{Each, same_bytes}
-use Rattle.group_links.specs.declared.outward.LinkOut.{LinkOut}
 use Rattle.trail.specs.declared.event.Addressed.{Addressed}
 use Rattle.trail.specs.declared.event.TrailEvent.{TrailEvent}
 use Rattle.trail.specs.declared.event.TrailEvent.TheVariants.{Happens, Send, Lost, Polls, End}
 use Rattle.trail_rules.specs.Replays.{arrivals, came_by}
 use Rattle.group_ends.specs.Carried.{times}
 use Rattle.group_ends.specs.Facts.{poured}
-use Rattle.group_ends.specs.Ports.{IsTaken}
 use Rattle.group_ends.proofs.Carrying.{IsLostOf}
 
 pub times-append : (bytes : List ℕ) (xs ys : List (List ℕ)) → times bytes (xs ++ ys) ≡ times bytes xs + times bytes ys

@@ -1,5 +1,5 @@
 -- When links drop messages, by trails that have more events.
-use Rattle.std.proofs.Common.{◌≡◌, ℕ, zero, suc, ◌+◌, ◌<◌, ◌≤◌, Bool, true, false, ◌||◌, List, [], ◌∷◌, ◌++◌, length, take, Option, Some, None, refl, sym, ap, subst, ◌∙◌, true≢false, arith, append_assoc, append-nil, length-append}
+use Rattle.std.proofs.Common.{◌≡◌, ℕ, zero, suc, ◌<◌, ◌≤◌, Bool, true, false, ◌||◌, List, [], ◌∷◌, ◌++◌, length, take, Option, Some, None, refl, sym, ap, subst, ◌∙◌, true≢false, arith, append_assoc, append-nil, length-append}
 use Rattle.smart_base.specs.Lists.{Each}
 use Rattle.smart_messages.specs.Messages.{spelling}
 use Rattle.node_rules.specs.declared.node.Target.{Target}
@@ -8,7 +8,7 @@ use Rattle.trail.specs.declared.event.TrailEvent.{TrailEvent}
 use Rattle.trail.specs.declared.event.TrailEvent.TheVariants.{Happens, Send, Lost, Polls, End}
 use Rattle.group_ends.specs.Carried.{same_target, is_for, is_lost, carried, last_sent, IsOf, is_among, is_told, MayDrop, DropsLate}
 use Rattle.group_ends.specs.Ports.{IsApart, AreApart, added, losts}
-use Rattle.group_ends.proofs.Carrying.{IsLostOf, same-itself, carried-send, losts-only}
+use Rattle.group_ends.proofs.Carrying.{end-apart, IsLostOf, same-itself, carried-send}
 
 -- ---- events behind others
 
@@ -106,7 +106,7 @@ lost-more end other a (End ∷ lost) to apart none = refl
 none-more : (other : Target) (a : Addressed) (lost : List TrailEvent) (ends : List Target) → a.to ≡ other → IsApart other ends → Each (λ (e : Target). is_lost e lost ≡ false) ends
     → Each (λ (e : Target). is_lost e (lost ++ Lost a ∷ []) ≡ false) ends
 none-more other a lost [] to apart none = tt
-none-more other a lost (end ∷ ends) to apart none = (lost-more end other a lost to apart.0 none.0, none-more other a lost ends to apart.1 none.1)
+none-more other a lost (end ∷ ends) to apart none = (lost-more end other a lost to (end-apart other end apart.0) none.0, none-more other a lost ends to apart.1 none.1)
 
 only-more : (a b : Addressed) (lost : List TrailEvent) → Each (IsLostOf a) lost → b.message ≡ a.message → Each (IsLostOf a) (lost ++ Lost b ∷ [])
 only-more a b [] only same = (same, tt)

@@ -1,5 +1,5 @@
 -- What a trail and links keep once a message has left, at each end of the call.
-use Rattle.std.proofs.Common.{◌≡◌, ◌∙◌, ℕ, Bool, ◌⊎◌, inl, inr, List, [], ◌∷◌, ◌++◌, length, take, Result, Ok, Err, OnOk, OnErr, arith, sym, ap, subst, append_assoc}
+use Rattle.std.proofs.Common.{◌≡◌, ◌∙◌, ℕ, Bool, ◌⊎◌, inl, inr, List, [], ◌∷◌, ◌++◌, length, take, Result, Ok, Err, OnOk, OnErr, IsErrAnd, arith, sym, ap, subst, append_assoc}
 use Rattle.std.proofs.lemmas.List.{take_all}
 use Rattle.smart_base.specs.Lists.{Each}
 use Rattle.smart_messages.specs.Messages.{spelling}
@@ -11,7 +11,7 @@ use Rattle.group_ends.specs.Carried.{DropsLate}
 use Rattle.group_ends.specs.Ports.{ends, port_links, AreApart, AreOffered, AreWithin, losts, IsPosted, IsSpread, IsSpreadFirst, Carries, CarriesFirst}
 use Rattle.group_ends.specs.declared.port.Port.{Port}
 use Rattle.group_ends.proofs.Carrying.{IsLostOf, losts-only, losts-none, losts-front, take-only, matches-losts}
-use Rattle.group_ends.proofs.Dropping.{late-more, losts-late, front-late}
+use Rattle.group_ends.proofs.Dropping.{late-more, front-late}
 use Rattle.group_ends.proofs.Offering.{offered-ends, within-ends, carries-all, carries-first, carries-part, matches-front, may-lose, same-within}
 
 -- the Losts of a message, as a call gives them for links that were offered it
@@ -36,6 +36,11 @@ more-err (Err fault) fact more = more fact
 pub on-err : {A E P : Type 0} (r : Result A E) → P → OnErr r P
 on-err (Ok done) fact = tt
 on-err (Err fault) fact = fact
+
+-- the fault that a call hands on
+pub same-fault : {T U F : Type 0} (r : Result T F) (s : Result U F) (given fault : F) → r ≡ Err given → IsErrAnd s (λ x. x ≡ given) → s ≡ Err fault → r ≡ Err fault
+same-fault r (Ok x) given fault was gives is = absurd gives
+same-fault r (Err x) given fault was gives is = cc
 
 -- ---- the trail and the links
 

@@ -1,8 +1,10 @@
 pub mod Carrying
 pub mod Coming
 pub mod Dropping
+pub mod Ending
 pub mod Offering
 pub mod Polling
 pub mod Leaving
 pub mod Seated
+pub mod Telling
 pub mod Texts

@@ -1,5 +1,5 @@
 -- What links carry once a message was offered to them.
-use Rattle.std.proofs.Common.{◌≡◌, ℕ, zero, suc, ◌+◌, ◌<◌, ◌≤◌, Bool, true, false, not, ◌&&◌, inl, inr, List, [], ◌∷◌, ◌++◌, length, map, take, drop, slice_set, get_or, Result, Ok, Err, IfOk, OnErr, refl, sym, ap, subst, ◌∙◌, true≢false, arith, append_assoc, append-nil}
+use Rattle.std.proofs.Common.{◌≡◌, ℕ, zero, suc, ◌+◌, ◌<◌, ◌≤◌, Bool, true, false, inl, inr, List, [], ◌∷◌, ◌++◌, length, take, drop, slice_set, get_or, Result, Ok, Err, IfOk, OnErr, refl, sym, ap, subst, ◌∙◌, true≢false, arith, append_assoc, append-nil}
 use Rattle.std.proofs.Math.Seq.{take-append_seam}
 use Rattle.std.proofs.lemmas.List.{take_all, take_more, take_more_set, drop_more, drop-set-lt, length-drop}
 use Rattle.atomic_table.specs.Seated.{TableId}
@@ -11,10 +11,10 @@ use Rattle.trail.specs.declared.event.Addressed.{Addressed}
 use Rattle.trail.specs.declared.event.TrailEvent.{TrailEvent}
 use Rattle.trail.specs.declared.event.TrailEvent.TheVariants.{Send, Lost}
 use Rattle.group_ends.specs.Carried.{is_for, is_lost, carried}
-use Rattle.group_ends.specs.Ports.{ends, port_links, AreApart, added, IsOffered, IsOfferedAt, AreOffered, IsWithin, AreWithin, lost_if, losts, Carries, CarriesFirst}
+use Rattle.group_ends.specs.Ports.{ends, port_links, added, IsOffered, IsOfferedAt, AreOffered, IsWithin, AreWithin, lost_if, losts, Carries, CarriesFirst}
 use Rattle.group_ends.specs.declared.port.Port.{Port}
 use Rattle.group_ends.proofs.Texts.{front-more}
-use Rattle.group_ends.proofs.Carrying.{IsLostOf, Matches, carried-send, carried-mute, is_mute, matches-losts, losts-only, take-only, lost-front}
+use Rattle.group_ends.proofs.Carrying.{IsLostOf, Matches, carried-send, carried-mute, is_mute, lost-front}
 use Rattle.group_ends.proofs.Dropping.{MayLose}
 
 -- ---- one link

@@ -1,13 +1,12 @@
 -- What the links of a seat keep once an event was played, or a message was taken from one of them.
-use Rattle.std.proofs.Common.{◌≡◌, ℕ, zero, suc, ◌+◌, ◌≤◌, Bool, true, List, [], ◌∷◌, ◌++◌, take, Option, Some, None, refl, sym, ap, subst, ◌∙◌, arith, append-nil}
+use Rattle.std.proofs.Common.{◌≡◌, ℕ, zero, suc, ◌+◌, ◌≤◌, true, List, [], ◌∷◌, ◌++◌, take, Option, Some, None, refl, sym, ap, subst, ◌∙◌, arith, append-nil}
 use Rattle.smart_base.specs.Lists.{Each}
-use Rattle.smart_statements.specs.declared.entry.NodeEvent.{NodeEvent}
 use Rattle.smart_statements.specs.declared.entry.NodeEvent.TheVariants.{Arrive}
 use Rattle.group_links.specs.declared.outward.LinkOut.{LinkOut}
 use Rattle.node_rules.specs.declared.node.Target.{Target}
 use Rattle.trail.specs.declared.event.Addressed.{Addressed}
 use Rattle.trail.specs.declared.event.TrailEvent.{TrailEvent}
-use Rattle.trail.specs.declared.event.TrailEvent.TheVariants.{Happens, Send}
+use Rattle.trail.specs.declared.event.TrailEvent.TheVariants.{Happens}
 use Rattle.trail_rules.specs.Replays.{arrivals, came_by}
 use Rattle.group_ends.specs.Carried.{MayDrop, DropsLate, times}
 use Rattle.group_ends.specs.Facts.{poured, HasCome, HasComeAtMost}

@@ -1,6 +1,6 @@
 -- The text of a trail with one more event, and what its sink has of it.
 use Rattle.std.proofs.Common.{◌≡◌, ℕ, zero, suc, ◌+◌, ◌-◌, ◌≤◌, ◌^◌, min, Bool, true, ◌⊎◌, inl, inr, List, [], ◌∷◌, ◌++◌, length, take, Option, Some, None, refl, sym, ap, subst, ◌∙◌, arith, append_assoc, append-nil, length-append}
-use Rattle.std.proofs.Math.Seq.{take-append-add, take-append_seam, take-length}
+use Rattle.std.proofs.Math.Seq.{take-append-add, take-append_seam}
 use Rattle.std.specs.List.{flat_map}
 use Rattle.std.specs.Io.KnownBytes.{Appends}
 use Rattle.std.proofs.KnownBytes.{Appends-trans}
@@ -80,6 +80,12 @@ module _ (head : TrailOpening) (entries : List (List ℕ)) (es new : List TrailE
 -- counts of failures
 pub later-still : (first before now : ℕ) → first ≤ before → before ≤ now → first ≤ now
 later-still first before now early late = omega (arith, early, late)
+
+-- a rise behind an earlier count is one of that count
+pub rose-later : (first before now : ℕ) → first ≤ before → Rose before now → Rose first now
+rose-later first before now early rose =
+    let it : min (before + 1) (2 ^ 64 - 1) ≤ now = rose in
+    omega (arith, it, early)
 
 pub rose-still : (first before now : ℕ) (failed failed' : Bool) → (failed ≡ true → Rose first before) → first ≤ before → before ≤ now
     → (failed' ≡ true → (failed ≡ true) ⊎ Rose before now) → failed' ≡ true → Rose first now

@@ -1,5 +1,5 @@
 -- What the links of a group carry, by the trail of the party that sends on them.
-use Rattle.std.specs.Prelude.{◌≡◌, ℕ, ◌<◌, ◌==◌, Bool, true, false, not, ◌&&◌, ◌||◌, List, [], ◌∷◌, ◌++◌, length, filter, take, if◌then◌else◌, Option, Some, None}
+use Rattle.std.specs.Prelude.{◌≡◌, ℕ, ◌<◌, ◌==◌, Bool, true, false, not, ◌&&◌, ◌||◌, List, [], ◌∷◌, ◌++◌, length, filter, if◌then◌else◌, Option, Some, None}
 use Rattle.std.specs.List.{list_any}
 use Rattle.smart_base.specs.Lists.{same_bytes}
 use Rattle.smart_messages.specs.Messages.{spelling}
@@ -35,6 +35,18 @@ is_for (Client a) View = false
 is_for View (Node b) = true
 is_for View (Client b) = false
 is_for View View = false
+
+-- Ends of the same link. A group has one client, so it has one link to a client.
+abbrev pub same_end : Target → Target → Bool
+same_end (Node a) (Node b) = a == b
+same_end (Node a) (Client b) = false
+same_end (Node a) View = false
+same_end (Client a) (Node b) = false
+same_end (Client a) (Client b) = true
+same_end (Client a) View = false
+same_end View (Node b) = false
+same_end View (Client b) = false
+same_end View View = true
 
 -- ---- what a link carries
 

@@ -1,5 +1,5 @@
 -- What the types of seats keep of their links, and that each of these facts has one proof.
-use Rattle.std.proofs.Common.{◌≡◌, ℕ, ◌+◌, ◌≤◌, Bool, true, false, List, [], ◌∷◌, ◌++◌, length, Option, Some, None}
+use Rattle.std.proofs.Common.{◌≡◌, ℕ, ◌+◌, ◌≤◌, Bool, false, List, [], ◌∷◌, ◌++◌, Option, Some, None}
 use Rattle.std.proofs.Props.{props}
 use Rattle.std.specs.Option.{option_to_list}
 use Rattle.smart_base.specs.Lists.{Each}
@@ -9,8 +9,8 @@ use Rattle.trail.specs.declared.event.Addressed.{Addressed}
 use Rattle.trail.specs.declared.event.TrailEvent.{TrailEvent}
 use Rattle.trail.specs.declared.event.TrailEvent.TheVariants.{Happens, Send, Lost, Polls, End}
 use Rattle.trail_rules.specs.Replays.{arrivals}
-use Rattle.group_ends.specs.Carried.{same_target, carried, last_sent, IsOf, MayDrop, DropsLate, times}
-use Rattle.group_ends.specs.Ports.{ends, IsApart, AreApart, Carries, CarriesFirst, takings}
+use Rattle.group_ends.specs.Carried.{last_sent, IsOf, MayDrop, DropsLate, times}
+use Rattle.group_ends.specs.Ports.{IsApart, AreApart, Carries, CarriesFirst, takings}
 use Rattle.group_ends.specs.declared.port.Port.{Port}
 
 -- all that was taken from several links

@@ -9,8 +9,8 @@ use Rattle.group_links.specs.declared.outward.LinkOut.{LinkOut}
 use Rattle.node_rules.specs.declared.node.Target.{Target}
 use Rattle.trail.specs.declared.event.Addressed.{Addressed}
 use Rattle.trail.specs.declared.event.TrailEvent.{TrailEvent}
-use Rattle.trail.specs.declared.event.TrailEvent.TheVariants.{Happens, Send, Lost, Polls, End}
-use Rattle.group_ends.specs.Carried.{same_target, is_for, carried}
+use Rattle.trail.specs.declared.event.TrailEvent.TheVariants.{Send, Lost}
+use Rattle.group_ends.specs.Carried.{same_end, is_for, carried}
 use Rattle.group_ends.specs.declared.port.Port.{Port}
 
 -- ---- the ends that send
@@ -22,11 +22,15 @@ ends ports = map (λ p. p.end) ports
 abbrev pub port_links : List Port → List TableId
 port_links ports = map (λ p. in_link p.link) ports
 
+-- what was put on each link
+abbrev pub puts : List Port → List (List (List ℕ))
+puts ports = map (λ p. link_put p.link) ports
+
 -- an end is none of these
 abbrev pub IsApart : Target → List Target → Type 0
-IsApart end others = Each (λ other. same_target end other ≡ false) others
+IsApart end others = Each (λ other. same_end end other ≡ false) others
 
--- ends none of which is there twice
+-- ends none of which is there twice, and at most one of which is a client's
 abbrev pub AreApart : List Target → Type 0
 AreApart [] = Unit {0}
 AreApart (end ∷ others) = IsApart end others × AreApart others
@@ -118,6 +122,10 @@ inbox_links links = map out_link links
 -- what was taken from each link
 abbrev pub takings : List (LinkOut (List ℕ)) → List (List (List ℕ))
 takings links = map link_taken links
+
+-- what each end has heard was put
+abbrev pub heard_puts : List (LinkOut (List ℕ)) → List (List (List ℕ))
+heard_puts links = map link_heard_put links
 
 -- what each end has heard was put, and what it has taken
 abbrev pub heard_and_taken : List (LinkOut (List ℕ)) → List (List (List ℕ) × List (List ℕ))

@@ -4,7 +4,7 @@ ghost use Rattle.std.specs.Io.KnownBytes.{Appends};
 ghost use Rattle.faults.specs.Counts.{Rose};
 ghost use Rattle.trail.specs.Events.{event_text};
 ghost use Rattle.trail.specs.Trails.{trail_text};
-ghost use Rattle.group_ends.specs.Journals.{HasFront, front_prop, whole_prop};
+ghost use Rattle.group_ends.specs.Journals.{HasFront, front_prop, whole_prop, is_end, has_end, IsEndLast, end_last_prop};
 
 use crate::owner::Owner;
 use crate::text::{short_text, write_part};
@@ -16,7 +16,7 @@ use std::marker::PhantomData;
 use trail::event::TrailEvent;
 
 /// All that happened to a party, and the sink of its trail. A sink that tells its bytes has the text of
-/// the trail. After a call has failed it has a front of that.
+/// the trail. After a call has failed it has a front of that. Once the trail has ended, nothing is added to it.
 pub struct Journal<P: Owner, O: Sink> {
     pub(crate) alloc: Global,
     /// The number of the party.
@@ -27,12 +27,16 @@ pub struct Journal<P: Owner, O: Sink> {
     pub(crate) failed: bool,
     /// Whether no call has failed.
     pub(crate) whole: bool,
+    /// Whether the trail has ended.
+    pub(crate) ended: bool,
     of: PhantomData<P>,
     pub ghost room: { whole ≡ true → vec_len events < vec_capacity events },
     pub ghost text: { HasFront (P.begun number) (O.written sink) (trail_text (P.head number) (P.entries number) events.items) } by { front_prop (P.begun number) (O.written sink) (trail_text (P.head number) (P.entries number) events.items) },
     pub ghost all_text: { whole ≡ true → Appends (P.begun number) (O.written sink) (trail_text (P.head number) (P.entries number) events.items) } by { whole_prop whole (P.begun number) (O.written sink) (trail_text (P.head number) (P.entries number) events.items) },
     pub ghost later: { P.failures number ≤ O.faults sink },
     pub ghost cause: { failed ≡ true → Rose (P.failures number) (O.faults sink) },
+    pub ghost ends: { ended ≡ has_end events.items },
+    pub ghost end_last: { IsEndLast events.items } by { end_last_prop events.items },
 }
 
 /// What is left of a journal.
@@ -42,6 +46,19 @@ pub struct JournalParts<O: Sink> {
     pub sink: O,
     pub failed: bool,
     pub whole: bool,
+}
+
+/// Whether an event says that its trail is whole.
+fn is_end(event: &TrailEvent) -> bool
+    ensures { result ≡ is_end event.now }
+{
+    match event {
+        TrailEvent::Happens(_) => false,
+        TrailEvent::Send(_) => false,
+        TrailEvent::Lost(_) => false,
+        TrailEvent::Polls(_) => false,
+        TrailEvent::End => true,
+    }
 }
 
 /// Puts an event behind a trail that has room for it, and gives its bytes, fewer than 2^32. Error: want of
@@ -69,17 +86,18 @@ impl<P: Owner, O: Sink + Drop> Drop for Journal<P, O> {
             sink: _,
             failed: _,
             whole: _,
+            ended: _,
             of: _,
         } = self;
     }
 }
 
 impl<P: Owner, O: Sink> Journal<P, O> {
-    ghost use Rattle.std.specs.Prelude.{◌≡◌, ◌≤◌, ◌++◌, ◌∷◌, [], ℕ, true, take, IfOk, IfErr, OnOk, OnErr, IsErrOf};
+    ghost use Rattle.std.specs.Prelude.{◌≡◌, ◌≤◌, ◌++◌, ◌∷◌, [], ℕ, true, false, take, IfOk, IfErr, OnOk, OnErr, IsErrOf};
     ghost use Rattle.std.specs.Io.KnownBytes.{Appends};
     ghost use Rattle.faults.specs.Counts.{Rose};
     ghost use Rattle.trail.specs.Trails.{trail_text};
-    ghost use Rattle.group_ends.specs.Journals.{HasFront};
+    ghost use Rattle.group_ends.specs.Journals.{HasFront, is_end, has_end, IsEndLast};
 
     /// A journal of nothing yet, over a sink that has the head of the trail. Error: want of memory; the
     /// sink comes back.
@@ -100,20 +118,32 @@ impl<P: Owner, O: Sink> Journal<P, O> {
             sink,
             failed: false,
             whole: true,
+            ended: false,
             of: PhantomData,
         })
+    }
+
+    /// Whether the trail has ended, so that nothing is added to it.
+    pub fn has_ended(&self) -> bool
+        ensures { result ≡ has_end self.now.events.items }
+    {
+        self.ended
     }
 
     /// Notes an event, and gives its text to the sink. The event is noted in any case. Errors: a failure
     /// of the sink; want of memory.
     pub fn note(&mut self, event: TrailEvent) -> Result<(), Fault>
-        requires { self.old.whole ≡ true }
+        requires whole { self.old.whole ≡ true }
+        requires going { has_end self.old.events.items ≡ false }
         ensures number { self.new.number ≡ self.old.number }
         ensures events { self.new.events.items ≡ self.old.events.items ++ event ∷ [] }
+        ensures ended { has_end self.new.events.items ≡ is_end event }
         ensures whole { OnOk result (self.new.whole ≡ true) }
-        ensures cause { IsErrOf result Fault.Failed → self.new.failed ≡ true }
+        ensures later { O.faults self.old.sink ≤ O.faults self.new.sink }
+        ensures cause { IsErrOf result Fault.Failed → (self.new.failed ≡ true) × Rose (O.faults self.old.sink) (O.faults self.new.sink) }
     {
         self.whole = false;
+        self.ended = is_end(&event);
         let Ok(text) = push(self.alloc, &mut self.events, event) else {
             return Err(Fault::NoMemory);
         };
@@ -122,14 +152,18 @@ impl<P: Owner, O: Sink> Journal<P, O> {
         Ok(())
     }
 
-    /// Notes events in order, until a call fails. Errors: as at `note`.
+    /// Notes events in order, until a call fails. No End is among them. Errors: as at `note`.
     pub fn note_each(&mut self, events: Vec<TrailEvent>) -> Result<(), Fault>
-        requires { self.old.whole ≡ true }
+        requires whole { self.old.whole ≡ true }
+        requires going { has_end self.old.events.items ≡ false }
+        requires none { has_end events.items ≡ false }
         ensures number { self.new.number ≡ self.old.number }
         ensures ok { OnOk result (self.new.events.items ≡ self.old.events.items ++ events.items) }
         ensures whole { OnOk result (self.new.whole ≡ true) }
         ensures err { OnErr result ((count : ℕ) × (self.new.events.items ≡ self.old.events.items ++ take count events.items)) }
-        ensures cause { IsErrOf result Fault.Failed → self.new.failed ≡ true }
+        ensures going { has_end self.new.events.items ≡ false }
+        ensures later { O.faults self.old.sink ≤ O.faults self.new.sink }
+        ensures cause { IsErrOf result Fault.Failed → (self.new.failed ≡ true) × Rose (O.faults self.old.sink) (O.faults self.new.sink) }
     {
         for event in events {
             self.note(event)?;
@@ -145,6 +179,7 @@ impl<P: Owner, O: Sink> Journal<P, O> {
         ensures all_text { result.whole ≡ true → Appends (P.begun self.number) (O.written result.sink) (trail_text (P.head self.number) (P.entries self.number) result.events.items) }
         ensures later { P.failures self.number ≤ O.faults result.sink }
         ensures cause { result.failed ≡ true → Rose (P.failures self.number) (O.faults result.sink) }
+        ensures end_last { IsEndLast result.events.items }
     {
         let Journal {
             alloc: _,
@@ -153,6 +188,7 @@ impl<P: Owner, O: Sink> Journal<P, O> {
             sink,
             failed,
             whole,
+            ended: _,
             of: _,
         } = self;
         JournalParts {

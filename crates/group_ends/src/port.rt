@@ -6,6 +6,7 @@ ghost use Rattle.node_rules.specs.declared.node.Target.TheVariants.{Node, Client
 
 use group_links::inward::{LinkIn, Sending};
 use node_rules::node::Target;
+use queue_ends::told::Told;
 use smart_base::name::MemberId;
 use smart_base::sequence::Bytes;
 use std::alloc::{AllocError, Global};
@@ -69,6 +70,7 @@ pub fn is_for(to: Target, end: Target) -> bool
 impl Port {
     ghost use Rattle.std.specs.Prelude.{◌≡◌, IfOk, OnErr};
     ghost use Rattle.group_links.specs.Link.{link_capacity, link_put, in_link};
+    ghost use Rattle.queue_ends.specs.Ends.{told_put, told_queue};
     ghost use Rattle.group_ends.specs.Ports.{IsOffered};
 
     /// An end of a link.
@@ -99,5 +101,13 @@ impl Port {
             Sending::Sent => Ok(false),
             Sending::Dropped { message: _ } => Ok(true),
         }
+    }
+
+    /// Tells what was put on the link so far.
+    pub fn tell(&mut self) -> Told<Bytes>
+        ensures told { (told_queue result ≡ in_link self.old.link) × (told_put result ≡ link_put self.old.link) }
+        ensures same { (self.new.end ≡ self.old.end) × ((in_link self.new.link ≡ in_link self.old.link) × (link_put self.new.link ≡ link_put self.old.link)) }
+    {
+        self.link.tell()
     }
 }

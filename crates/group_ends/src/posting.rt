@@ -1,9 +1,11 @@
 //! How a message leaves a party: its trail tells that it was sent, it is put on the links whose ends are to
 //! hear it, and the trail tells which of them dropped it.
-ghost use Rattle.std.specs.Prelude.{◌≡◌, ◌⊎◌, [], true, OnOk, OnErr, IfOk, IsErrOf};
+ghost use Rattle.std.specs.Prelude.{◌≡◌, ◌≤◌, ◌⊎◌, [], true, false, OnOk, OnErr, IfOk, IsErrOf};
+ghost use Rattle.faults.specs.Counts.{Rose};
 ghost use Rattle.smart_base.specs.Lists.{Each};
 ghost use Rattle.smart_messages.specs.Messages.{spelling};
 ghost use Rattle.group_ends.specs.Carried.{DropsLate};
+ghost use Rattle.group_ends.specs.Journals.{has_end};
 ghost use Rattle.group_ends.specs.Ports.{ends, port_links, AreApart, AreWithin, Carries, CarriesFirst, IsPosted, IsSpread, IsSpreadFirst};
 
 use crate::journal::Journal;
@@ -56,12 +58,15 @@ fn spread<P: Owner, O: Sink, R: Wait>(
     text: &Bytes,
 ) -> Result<(), Fault>
     requires whole { journal.old.whole ≡ true }
+    requires going { has_end journal.old.events.items ≡ false }
     requires text { text.now ≡ spelling sent.now.message }
     ensures number { journal.new.number ≡ journal.old.number }
     ensures ok { OnOk result (IsSpread sent.now ports.old.items ports.new.items journal.old.events.items journal.new.events.items) }
     ensures err { OnErr result ((AreWithin sent.now.to text.now ports.old.items ports.new.items × (journal.new.events.items ≡ journal.old.events.items)) ⊎ IsSpreadFirst sent.now ports.old.items ports.new.items journal.old.events.items journal.new.events.items) }
     ensures whole { OnOk result (journal.new.whole ≡ true) }
-    ensures cause { IsErrOf result Fault.Failed → journal.new.failed ≡ true }
+    ensures going { has_end journal.new.events.items ≡ false }
+    ensures later { O.faults journal.old.sink ≤ O.faults journal.new.sink }
+    ensures cause { IsErrOf result Fault.Failed → (journal.new.failed ≡ true) × Rose (O.faults journal.old.sink) (O.faults journal.new.sink) }
 {
     let Ok(dropped) = offer_all(rt, alloc, ports, &sent.to, text) else {
         return Err(Fault::NoMemory);
@@ -82,6 +87,7 @@ pub fn post<P: Owner, O: Sink, R: Wait>(
     parcel: Parcel,
 ) -> Result<(), Fault>
     requires whole { journal.old.whole ≡ true }
+    requires going { has_end journal.old.events.items ≡ false }
     requires apart { AreApart (ends ports.old.items) }
     requires carries { Each (Carries journal.old.events.items) ports.old.items }
     requires late { DropsLate (ends ports.old.items) [] journal.old.events.items }
@@ -92,7 +98,9 @@ pub fn post<P: Owner, O: Sink, R: Wait>(
     ensures err { OnErr result (Each (CarriesFirst journal.new.events.items) ports.new.items) }
     ensures late { DropsLate (ends ports.new.items) [] journal.new.events.items }
     ensures whole { OnOk result (journal.new.whole ≡ true) }
-    ensures cause { IsErrOf result Fault.Failed → journal.new.failed ≡ true }
+    ensures going { has_end journal.new.events.items ≡ false }
+    ensures later { O.faults journal.old.sink ≤ O.faults journal.new.sink }
+    ensures cause { IsErrOf result Fault.Failed → (journal.new.failed ≡ true) × Rose (O.faults journal.old.sink) (O.faults journal.new.sink) }
 {
     let Parcel { sent, copy, text } = parcel;
     journal.note(TrailEvent::Send(sent))?;

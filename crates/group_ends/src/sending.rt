@@ -1,10 +1,12 @@
-//! How a message is offered to several links, and which Losts tell of it.
-ghost use Rattle.std.specs.Prelude.{◌≡◌, ◌<◌, ◌++◌, false, get_or, vec_len, IfOk, OnOk, OnErr};
-ghost use Rattle.group_ends.specs.Ports.{ends, lost_if, losts, IsOfferedAt, AreOffered, AreWithin};
+//! How a message is offered to several links, which Losts tell of it, and how what was put is told.
+ghost use Rattle.std.specs.Prelude.{◌≡◌, ◌<◌, ◌++◌, [], false, get_or, vec_len, IfOk, OnOk, OnErr};
+ghost use Rattle.queue_ends.specs.Ends.{told_put, told_queue};
+ghost use Rattle.group_ends.specs.Ports.{ends, port_links, puts, lost_if, losts, IsOfferedAt, AreOffered, AreWithin};
 ghost use Rattle.trail.specs.declared.event.TrailEvent.TheVariants.{Lost};
 
 use crate::port::Port;
 use node_rules::node::Target;
+use queue_ends::told::Told;
 use smart_base::duplicate::Duplicate;
 use smart_base::sequence::Bytes;
 use std::alloc::{AllocError, Global};
@@ -47,6 +49,16 @@ pub fn offer_all<R: Wait>(
         dropped.push(is_dropped)?;
     }
     Ok(dropped)
+}
+
+/// Tells what was put so far on one of several links.
+pub fn tell_at(ports: &mut Vec<Port>, index: usize) -> Told<Bytes>
+    requires { index < vec_len ports.old }
+    ensures link { told_queue result ≡ get_or (port_links ports.old.items) index (told_queue result) }
+    ensures told { told_put result ≡ get_or (puts ports.old.items) index [] }
+    ensures same { (ends ports.new.items ≡ ends ports.old.items) × ((port_links ports.new.items ≡ port_links ports.old.items) × (puts ports.new.items ≡ puts ports.old.items)) }
+{
+    ports[index].tell()
 }
 
 /// The Lost of a message that the link to an end has dropped. Error: want of memory.

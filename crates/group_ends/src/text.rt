@@ -33,7 +33,7 @@ pub(crate) fn write_part<O: Sink>(sink: &mut O, failed: &mut bool, text: &[u8]) 
     ensures err { OnErr result ((count : ℕ) × Appends (O.written sink.old) (O.written sink.new) (take count (part text.now))) }
     ensures later { O.faults sink.old ≤ O.faults sink.new }
     ensures failed { failed.new ≡ true → (failed.old ≡ true) ⊎ Rose (O.faults sink.old) (O.faults sink.new) }
-    ensures cause { IsErrOf result Fault.Failed → failed.new ≡ true }
+    ensures cause { IsErrOf result Fault.Failed → (failed.new ≡ true) × Rose (O.faults sink.old) (O.faults sink.new) }
 {
     match write_frame(sink, text) {
         Ok(()) => Ok(()),

@@ -78,6 +78,32 @@ impl<D: Disk, H: Home> LogWorker<D, H> {
         }
     }
 
+    /// A worker that goes on over the lane and the store of one that was taken apart, in which no round had
+    /// failed. The store restored so many entries.
+    pub fn again(
+        alloc: Global,
+        lane: LaneOut<EntryText>,
+        store: Store<D>,
+        restored: u64,
+    ) -> LogWorker<D, H>
+        requires lane { out_lane lane ≡ H.lane }
+        requires restored { (restored ≡ H.restored) × (restored ≤ 2 ^ 63) }
+        requires stored { restored + lane_raised lane ≤ store.plan.firm }
+        requires rests { IsAtRest store.plan store.state }
+        requires taken { restored + length (lane_taken lane) ≤ store.plan.firm + length store.plan.waiting }
+        ensures same { (result.lane ≡ lane) × (result.store ≡ store) }
+        ensures whole { result.faulty ≡ false }
+    {
+        LogWorker {
+            alloc,
+            lane,
+            store,
+            restored,
+            faulty: false,
+            of: PhantomData,
+        }
+    }
+
     /// The number of firm entries: those restored, and those made firm since.
     pub fn firm(&self) -> u64
         ensures { result ≡ self.now.store.plan.firm }

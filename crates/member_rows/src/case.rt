@@ -1,8 +1,6 @@
-//! What a life is lived over: its words and its input, and what fails, waits or is held.
-use crate::ends::Until;
+//! What a life is lived over: its words and its input, and what fails or is held.
 use crate::fault::RowFault;
-use crate::signs::Holding;
-use hex::FromHexError;
+use crate::steps::{Step, bytes_of, number_of, step_of};
 use std::alloc::{AllocError, Global};
 
 /// The words of a life that has none of its own.
@@ -12,52 +10,24 @@ const WORDS: &str = "node --id 1 --dir . --secret 776f726c64 --group 1,0";
 #[derive(Drop)]
 pub struct Case {
     pub words: Vec<String>,
-    pub bytes: Vec<u8>,
+    /// What the input does, the last step first.
+    pub steps: Vec<Step>,
     /// The read that fails.
     pub read: u64,
     /// The write of the output that fails.
     pub write: u64,
+    /// Whether the output waits until the input waits for its failure.
+    pub waits: bool,
     /// The call of the trail's sink that fails.
     pub trail: u64,
     /// How often the room of trails refuses.
     pub refusals: u64,
-    /// The milliseconds from one look at the clock to the next.
-    pub step: u64,
-    /// The number of frames behind the bytes of the input after which a second has passed besides.
-    pub second: u64,
-    pub until: Until,
-    pub holding: Holding,
-}
-
-/// Bytes that a word spells in hexadecimal digits.
-fn bytes_of(alloc: Global, word: &str) -> Result<Vec<u8>, RowFault> {
-    match hex::decode(alloc, word) {
-        Ok(bytes) => Ok(bytes),
-        Err(FromHexError::OutOfMemory) => Err(RowFault::NoMemory),
-        Err(_) => Err(RowFault::Word),
-    }
-}
-
-/// The number that a word is.
-pub fn number_of(word: &str) -> Result<u64, RowFault> {
-    word.parse::<u64>().ok().ok_or(RowFault::Word)
-}
-
-fn until_of(word: &str) -> Result<Until, RowFault> {
-    match word {
-        "delivered" => Ok(Until::Delivered),
-        "failed" => Ok(Until::Failed),
-        "slot" => Ok(Until::Slot),
-        "stopped" => Ok(Until::Stopped),
-        _ => Err(RowFault::Word),
-    }
-}
-
-fn holding_of(word: &str) -> Result<Holding, RowFault> {
-    match word {
-        "write" => Ok(Holding::Write),
-        _ => Ok(Holding::Frames(number_of(word)?)),
-    }
+    /// Whether a gate holds the groups that decide a place.
+    pub holds: bool,
+    /// The place behind whose delivery a gate holds the member; 0 is none.
+    pub stays: u64,
+    /// The trails of others that are audited behind the member's own.
+    pub others: Vec<u8>,
 }
 
 /// The words that a text has, each behind a space but the first.
@@ -70,20 +40,32 @@ fn words_in(alloc: Global, text: &str) -> Result<Vec<String>, AllocError> {
 }
 
 impl Case {
-    /// Takes an option in: its name, an equals sign, and its value.
+    /// Whether a gate holds anything.
+    pub fn is_held(&self) -> bool {
+        self.holds || self.stays > 0
+    }
+
+    /// Takes a step in.
+    fn add(&mut self, step: Step) -> Result<(), RowFault> {
+        if let Step::Failure = &step {
+            self.waits = true;
+        }
+        self.steps.push(step)?;
+        Ok(())
+    }
+
+    /// Takes an option in: its name, or its name, an equals sign, and its value.
     fn set(&mut self, alloc: Global, option: &str) -> Result<(), RowFault> {
-        let (name, value) = option.split_once('=').ok_or(RowFault::Word)?;
+        let (name, value) = option.split_once('=').unwrap_or((option, ""));
         match name {
-            "input" => self.bytes = bytes_of(alloc, value)?,
             "read" => self.read = number_of(value)?,
             "write" => self.write = number_of(value)?,
             "trail" => self.trail = number_of(value)?,
             "refusals" => self.refusals = number_of(value)?,
-            "step" => self.step = number_of(value)?,
-            "second" => self.second = number_of(value)?,
-            "until" => self.until = until_of(value)?,
-            "hold" => self.holding = holding_of(value)?,
-            _ => return Err(RowFault::Word),
+            "hold" => self.holds = true,
+            "stay" => self.stays = number_of(value)?,
+            "others" => self.others = bytes_of(alloc, value)?,
+            _ => self.add(step_of(alloc, name, value)?)?,
         }
         Ok(())
     }
@@ -94,20 +76,21 @@ pub fn case_of(alloc: Global, row: &str) -> Result<Case, RowFault> {
     let (options, words) = row.split_once(": ").unwrap_or((row, WORDS));
     let mut case = Case {
         words: words_in(alloc, words)?,
-        bytes: Vec::new(alloc),
+        steps: Vec::new(alloc),
         read: 0,
         write: 0,
+        waits: false,
         trail: 0,
         refusals: 0,
-        step: 0,
-        second: 0,
-        until: Until::Now,
-        holding: Holding::Nowhere,
+        holds: false,
+        stays: 0,
+        others: Vec::new(alloc),
     };
     for option in options.split(' ') {
         if !option.is_empty() {
             case.set(alloc, option)?;
         }
     }
+    case.steps.reverse();
     Ok(case)
 }

@@ -1,9 +1,9 @@
 //! A life, and what is said of it.
 use crate::case::Case;
-use crate::ends::{TrialClock, TrialSink, TrialSource, Until};
+use crate::course::Course;
+use crate::ends::{TrialClock, TrialSink, TrialSource};
 use crate::fault::RowFault;
-use crate::signs::{Holding, TrialGate, has_given_up, no_signs};
-use clock_gate::clock::StepClock;
+use crate::signs::{MOST, TrialGate, has_given_up, no_signs};
 use disk_model::room::DiskRoom;
 use frame_stream::stream::Frames;
 use node_rooms::trails::TrailRoom;
@@ -24,8 +24,15 @@ pub struct Ending {
     pub said: Vec<u8>,
     /// The place that was delivered last.
     pub delivered: u64,
-    /// Whether the gate has given up.
+    /// Whether a gate was to hold, and whether it has given up.
+    pub holds: bool,
     pub gave_up: bool,
+    /// Whether it was to hold the member behind a delivery.
+    pub stays: bool,
+    /// Whether the input has waited in vain.
+    pub in_vain: bool,
+    /// The trails of others that are audited behind the member's own.
+    pub others: Vec<u8>,
 }
 
 /// A list of one number.
@@ -39,7 +46,7 @@ fn only(alloc: Global, number: u64) -> Result<Vec<u64>, AllocError> {
 pub fn lived<R: Threads + Wait + Sync, M: DiskRoom, T: TrailRoom>(
     handle: &R,
     rt: &HostRuntime,
-    case: &Case,
+    case: Case,
     room: &mut M,
     trails: &mut T,
 ) -> Result<Ending, RowFault>
@@ -48,31 +55,29 @@ where
     T::Sink: Send,
 {
     let alloc = rt.alloc();
-    let signs = no_signs();
-    let bytes = Vec::from_slice(alloc, case.bytes.as_slice())?;
+    let holds = case.is_held();
+    let stays = case.stays > 0;
+    let signs = no_signs(!case.holds, case.stays);
     let mut input = TrialSource {
-        inner: MemSource::new(bytes, only(alloc, case.read)?),
-        until: case.until,
-        signs: &signs,
-        rt,
+        inner: MemSource::new(Vec::new(alloc), only(alloc, case.read)?),
+        course: Course {
+            alloc,
+            steps: case.steps,
+            frames: 0,
+            patience: MOST,
+            signs: &signs,
+            rt,
+        },
     };
     let mut output = TrialSink {
         inner: MemSink::new(Vec::new(alloc), only(alloc, case.write)?),
-        waits: case.until == Until::Failed,
+        waits: case.waits,
         signs: &signs,
         rt,
     };
-    let mut clock = TrialClock {
-        steps: StepClock::new(case.step),
-        frames: case.second,
-        signs: &signs,
-    };
+    let mut clock = TrialClock { signs: &signs };
     let mut errors = MemSink::new(Vec::new(alloc), Vec::new(alloc));
-    let gate = TrialGate {
-        signs: &signs,
-        holding: case.holding,
-        rt,
-    };
+    let gate = TrialGate { signs: &signs, rt };
     let status = run(
         handle,
         alloc,
@@ -90,7 +95,11 @@ where
         written: output.inner.bytes,
         said: errors.bytes,
         delivered: signs.delivered.load(Ordering::SeqCst),
+        holds,
         gave_up: has_given_up(&signs),
+        stays,
+        in_vain: signs.in_vain.load(Ordering::SeqCst),
+        others: case.others,
     })
 }
 
@@ -111,10 +120,12 @@ fn say_frames(rt: &HostRuntime, written: &[u8]) -> Result<(), RowFault> {
     Ok(())
 }
 
-/// Says what an audit tells of a trail.
-fn say_audit(rt: &HostRuntime, trail: Vec<u8>) -> Result<(), RowFault> {
+/// Says what an audit tells of a trail, and of those of others behind it.
+fn say_audit(rt: &HostRuntime, trail: Vec<u8>, others: &[u8]) -> Result<(), RowFault> {
     let alloc = rt.alloc();
-    let mut input = MemSource::new(trail, Vec::new(alloc));
+    let mut trails = trail;
+    trails.extend_from_slice(others)?;
+    let mut input = MemSource::new(trails, Vec::new(alloc));
     let mut output = MemSink::new(Vec::new(alloc), Vec::new(alloc));
     audit(alloc, &mut input, &mut output);
     let told = output.bytes.as_slice().trim_ascii_end().escape_ascii();
@@ -122,47 +133,87 @@ fn say_audit(rt: &HostRuntime, trail: Vec<u8>) -> Result<(), RowFault> {
     Ok(())
 }
 
-/// Whether a trail has a tick.
-fn has_tick(alloc: Global, trail: &[u8]) -> Result<bool, RowFault> {
+/// The number of ticks in a trail.
+fn ticks_in(alloc: Global, trail: &[u8]) -> Result<u64, RowFault> {
     let mut parts = Frames::new(alloc);
     if parts.feed(trail).is_err() {
         return Err(RowFault::NoMemory);
     }
+    let mut ticks: u64 = 0;
     for _ in 0..trail.len() {
-        match parts.next() {
-            Some(part) => {
-                if part.as_slice() == b"\x02".as_slice() {
-                    return Ok(true);
-                }
-            }
-            None => break,
+        let Some(part) = parts.next() else {
+            break;
+        };
+        if part.as_slice() == b"\x02".as_slice() {
+            ticks = ticks.saturating_add(1);
         }
     }
-    Ok(false)
+    Ok(ticks)
 }
 
-/// Says what a life that has done all has written, and what its trail tells.
-fn say_whole(rt: &HostRuntime, written: &[u8], trail: Vec<u8>) -> Result<(), RowFault> {
-    say_frames(rt, written)?;
-    if has_tick(rt.alloc(), trail.as_slice())? {
-        println!(rt; "a tick came")?;
+/// Says the number of ticks in a trail, if it has one.
+fn say_ticks(rt: &HostRuntime, trail: &[u8]) -> Result<(), RowFault> {
+    let ticks = ticks_in(rt.alloc(), trail)?;
+    if ticks > 0 {
+        println!(rt; "ticks {ticks}")?;
     }
-    say_audit(rt, trail)
+    Ok(())
+}
+
+/// The number of messages that came before the first tick in a trail. The life has restored no entry.
+fn arrivals_in(alloc: Global, trail: &[u8]) -> Result<u64, RowFault> {
+    let mut parts = Frames::new(alloc);
+    if parts.feed(trail).is_err() {
+        return Err(RowFault::NoMemory);
+    }
+    let mut arrivals: u64 = 0;
+    for _ in 0..trail.len() {
+        let Some(part) = parts.next() else {
+            break;
+        };
+        match part.as_slice().get(0) {
+            Some(1) => arrivals = arrivals.saturating_add(1),
+            Some(2) => break,
+            _ => {}
+        }
+    }
+    Ok(arrivals)
+}
+
+/// Says how many messages came before the first tick in a trail.
+fn say_arrivals(rt: &HostRuntime, trail: &[u8]) -> Result<(), RowFault> {
+    let arrivals = arrivals_in(rt.alloc(), trail)?;
+    println!(rt; "messages before the first tick {arrivals}")?;
+    Ok(())
+}
+
+/// Says what was held, and for what the input waited in vain.
+fn say_waits(rt: &HostRuntime, ending: &Ending) -> Result<(), RowFault> {
+    if ending.holds {
+        let gave_up = ending.gave_up;
+        println!(rt; "the gate gave up: {gave_up}")?;
+    }
+    if ending.in_vain {
+        println!(rt; "the input waited in vain")?;
+    }
+    Ok(())
 }
 
 /// Says how a life has ended. What it has written is said only if it has done all.
-pub fn say(rt: &HostRuntime, case: &Case, ending: &Ending, trail: Vec<u8>) -> Result<(), RowFault> {
+pub fn say(rt: &HostRuntime, ending: &Ending, trail: Vec<u8>) -> Result<(), RowFault> {
     let code = ending.status.code();
     let said = ending.said.as_slice().trim_ascii_end().escape_ascii();
     println!(rt; "status {code} {said}")?;
     let delivered = ending.delivered;
     println!(rt; "delivered {delivered}")?;
-    if case.holding != Holding::Nowhere {
-        let gave_up = ending.gave_up;
-        println!(rt; "the gate gave up: {gave_up}")?;
-    }
+    say_waits(rt, ending)?;
     if ending.status == Status::Ok {
-        say_whole(rt, ending.written.as_slice(), trail)?;
+        say_frames(rt, ending.written.as_slice())?;
+        say_ticks(rt, trail.as_slice())?;
+        if ending.stays {
+            say_arrivals(rt, trail.as_slice())?;
+        }
+        say_audit(rt, trail, ending.others.as_slice())?;
     }
     Ok(())
 }

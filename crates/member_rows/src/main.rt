@@ -3,11 +3,13 @@
 #![tactic(auto)]
 
 mod case;
+mod course;
 mod ends;
 mod fault;
 mod life;
 mod rooms;
 mod signs;
+mod steps;
 
 use crate::case::case_of;
 use crate::fault::RowFault;

@@ -1,7 +1,8 @@
 //! The rooms in which lives are lived, and what stays in them.
-use crate::case::{Case, number_of};
+use crate::case::Case;
 use crate::fault::RowFault;
 use crate::life::{lived, say};
+use crate::steps::number_of;
 use disk_model::memory::MemDisk;
 use disk_model::room::{DiskRoom, MemRoom};
 use durable_store::reopening::reopen;
@@ -132,9 +133,9 @@ impl Rooms {
     ) -> Result<(), RowFault> {
         self.trails.refusals = case.refusals;
         self.trails.failing = case.trail;
-        let ending = lived(handle, rt, &case, &mut self.disks, &mut self.trails)?;
+        let ending = lived(handle, rt, case, &mut self.disks, &mut self.trails)?;
         let trail = trail_in(rt.alloc(), &self.trails)?;
-        say(rt, &case, &ending, trail)
+        say(rt, &ending, trail)
     }
 
     /// Lets a member live over files, and says how that ends.
@@ -146,9 +147,9 @@ impl Rooms {
     ) -> Result<(), RowFault> {
         let mut disks = FileRoom::new(rt, rt.alloc());
         let mut trails = FileTrails::new(rt, rt.alloc());
-        let ending = lived(handle, rt, &case, &mut disks, &mut trails)?;
+        let ending = lived(handle, rt, case, &mut disks, &mut trails)?;
         let trail = fs::read(rt, "./n1.trail")?;
-        say(rt, &case, &ending, trail)
+        say(rt, &ending, trail)
     }
 
     /// Says what the devices restore that a word names. Those in memory are taken then.

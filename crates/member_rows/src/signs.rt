@@ -8,39 +8,58 @@ use std::time::{Clock, Duration};
 /// The longest wait, in milliseconds.
 pub const MOST: u32 = 10_000;
 
-/// How often a gate holds a worker in a life. Then it gives up, and is open. It is asked more often.
-const PATIENCE: u64 = 50_000;
+/// How often a gate holds a worker in a life. Then it gives up, and is open. It is asked more often. It holds
+/// longer than an input waits.
+const PATIENCE: u64 = 500_000;
 
 /// What has happened in a life.
 #[derive(Drop)]
 pub struct Signs {
     /// The place that was delivered last.
     pub delivered: AtomicU64,
-    /// Whether a place was delivered behind which nothing is held: place 1, or place 2 where a gate holds.
-    pub played: AtomicBool,
+    /// The number of frames that were written.
+    pub written: AtomicU64,
+    /// The milliseconds that have passed.
+    pub time: AtomicU64,
+    /// How often the clock was looked at.
+    pub looks: AtomicU64,
+    /// How often a gate has held a worker.
+    pub held: AtomicU64,
     /// Whether a group that decides a place was about to be written.
     pub writing: AtomicBool,
-    /// Whether the read has begun that ends the input.
+    /// Whether the gate is open for the groups.
+    pub open: AtomicBool,
+    /// The place behind whose delivery the gate is closed; 0, if it is open.
+    pub stays: AtomicU64,
+    /// Whether the input waits for a failure of the output.
     pub reading: AtomicBool,
     /// Whether the output has failed.
     pub failed: AtomicBool,
-    /// The number of frames that the input has given behind its bytes.
-    pub given: AtomicU64,
-    /// How often a gate has held a worker.
-    pub held: AtomicU64,
+    /// Whether the input has waited in vain.
+    pub in_vain: AtomicBool,
 }
 
-/// Nothing has happened.
-pub fn no_signs() -> Signs {
+/// Nothing has happened. Whether the gate is open for the groups is stated, and the place behind whose delivery
+/// it is closed.
+pub fn no_signs(is_open: bool, stays: u64) -> Signs {
     Signs {
         delivered: AtomicU64::new(0),
-        played: AtomicBool::new(false),
+        written: AtomicU64::new(0),
+        time: AtomicU64::new(0),
+        looks: AtomicU64::new(0),
+        held: AtomicU64::new(0),
         writing: AtomicBool::new(false),
+        open: AtomicBool::new(is_open),
+        stays: AtomicU64::new(stays),
         reading: AtomicBool::new(false),
         failed: AtomicBool::new(false),
-        given: AtomicU64::new(0),
-        held: AtomicU64::new(0),
+        in_vain: AtomicBool::new(false),
     }
+}
+
+/// Sleeps a millisecond.
+pub fn sleep<C: Clock>(clock: &C) {
+    thread::sleep(clock, Duration::from_millis(1));
 }
 
 /// Waits until something has happened, but no longer than `MOST`.
@@ -49,28 +68,15 @@ pub fn wait_until<C: Clock>(clock: &C, sign: &AtomicBool) {
         if sign.load(Ordering::SeqCst) {
             return;
         }
-        thread::sleep(clock, Duration::from_millis(1));
+        sleep(clock);
     }
 }
 
-/// How a gate holds the workers of a life. Unless it is open, nothing more is played behind place 1 before
-/// a group that decides a place is about to be written.
-#[derive(Clone, Copy, Debug, PartialEq, Eq)]
-pub enum Holding {
-    /// The gate is open.
-    Nowhere,
-    /// That group is not written before place 2 is delivered.
-    Write,
-    /// That group is not written before the input has given this many frames behind its bytes.
-    Frames(u64),
-}
-
-/// A gate that holds a member's workers until signs come. It sleeps before it answers that one is held, so
-/// that the signs come long before it gives up.
+/// A gate that holds each group that decides a place, and a member that has delivered a place, until it is opened
+/// for them. It sleeps before it answers that one is held, so that it is opened long before it gives up.
 #[derive(Drop)]
 pub struct TrialGate<'a> {
     pub signs: &'a Signs,
-    pub holding: Holding,
     pub rt: &'a HostRuntime,
 }
 
@@ -81,21 +87,13 @@ impl<'a> TrialGate<'a> {
             return true;
         }
         self.signs.writing.store(true, Ordering::SeqCst);
-        match self.holding {
-            Holding::Nowhere => true,
-            Holding::Write => self.signs.delivered.load(Ordering::SeqCst) >= 2,
-            Holding::Frames(count) => self.signs.given.load(Ordering::SeqCst) >= count,
-        }
+        self.signs.open.load(Ordering::SeqCst)
     }
 
-    /// Notes that a place was delivered. Says whether more may be played.
-    fn may_play(&self, place: u64) -> bool {
+    /// Whether a member that has delivered this place may go on.
+    fn may_go_on(&self, place: u64) -> bool {
         self.signs.delivered.store(place, Ordering::SeqCst);
-        if self.holding == Holding::Nowhere || place > 1 {
-            self.signs.played.store(true, Ordering::SeqCst);
-            return true;
-        }
-        self.signs.writing.load(Ordering::SeqCst)
+        self.signs.stays.load(Ordering::SeqCst) != place
     }
 }
 
@@ -103,13 +101,13 @@ impl<'a> Gate for TrialGate<'a> {
     fn at(&self, _member: MemberId, point: Point) -> bool {
         let goes_on = match point {
             Point::BeforeWrite { decided } => self.may_write(decided),
-            Point::Delivered { place } => self.may_play(place),
+            Point::Delivered { place } => self.may_go_on(place),
         };
         if goes_on || has_given_up(self.signs) {
             return true;
         }
         self.signs.held.fetch_add(1, Ordering::SeqCst);
-        thread::sleep(self.rt, Duration::from_micros(1));
+        thread::sleep(self.rt, Duration::from_micros(100));
         false
     }
 }

@@ -69,6 +69,8 @@ pub fn deliver_next<S: Service, P: Place<S>, O: Sink, R: Wait>(
     ensures stays { seat.old.over ≡ true → seat.new.inner.trail.items ≡ seat.old.inner.trail.items }
     ensures ended { has_end seat.old.inner.trail.items ≡ true → (result ≡ Delivering.Not Turn.Over) × (seat.new.inner.trail.items ≡ seat.old.inner.trail.items) }
     ensures heard { link_heard_put seat.new.from ≡ link_heard_put seat.old.from }
+    ensures handed { seat.new.handed ≡ seat.old.handed }
+    ensures cut { (seat.old.over ≡ true → seat.new.cut ≡ seat.old.cut) × (has_end seat.old.inner.trail.items ≡ true → seat.new.cut ≡ seat.old.cut) }
 {
     if !seat.goes_on() {
         return Delivering::Not(Turn::Over);

@@ -7,11 +7,11 @@ use Rattle.certificates.proofs.Reported.{collect-exact}
 use Rattle.certificates.specs.Certificates.{AreSigned}
 use Rattle.certificates.specs.Collects.{IsCollect, IsReportOf, collect_fault}
 use Rattle.replica_rules.specs.Seals.{is_verified}
-use Rattle.agreement_laws.specs.Certificates.{IsChosen, IsLockedCollect, IsLockedReport}
+use Rattle.agreement_laws.specs.Certificates.{IsChosen, IsLockedReport}
 use Rattle.agreement_laws.specs.Statements.{Statement}
 use Rattle.node_rules.specs.Arrivals.{is_collect}
 use Rattle.node_rules.specs.Changes.{adoption, adopts, adopts_by, is_adoptable, promised_for, start_by_sync}
-use Rattle.node_rules.specs.Nodes.{Node, view_start, is_begun, next_place, recording, regency_of, view_of}
+use Rattle.node_rules.specs.Nodes.{Node, greatest_regency, view_start, is_begun, next_place, recording, regency_of, view_of}
 use Rattle.regency_sync.specs.Choices.{choice}
 use Rattle.regency_sync.specs.Synchronizers.{needs_sync}
 use Rattle.smart_base.specs.Lists.{Each}
@@ -31,7 +31,6 @@ use Rattle.node_laws.proofs.Lists.{found}
 use Rattle.node_laws.proofs.Nodes.{SyncKept, aside}
 use Rattle.node_laws.proofs.Promised.{records_promise, records_start, regency_then}
 use Rattle.node_laws.proofs.Stated.{covers}
-use Rattle.node_laws.proofs.Votes.{in_force}
 use Rattle.node_laws.specs.Sound.{IsSound, IsStated, IsWithin}
 use Rattle.smart_messages.specs.declared.message.Message.TheVariants as changes
 use Rattle.agreement_laws.specs.Statements as says
@@ -58,31 +57,27 @@ report_within s r there =
     inr (among_left (says.Reported r) (flat_map says.in_report s.statement.collect) []
     (among_flat says.in_report s.statement.collect r (says.Reported r) there (inl refl)))
 
-chosen_by : (secret : List ℕ) (stated : List Statement) (view : View) (views : List View) (s : SignedBy Sync) → present views ≡ view → IsStated secret stated (changes.Sync s)
-    → IsCollect secret views s.statement.regency s.statement.collect → IsChosen secret view stated (start_by_sync s.statement)
+chosen_by : (secret : List ℕ) (stated : List Statement) (views : List View) (s : SignedBy Sync) → IsStated secret stated (changes.Sync s)
+    → IsCollect secret views s.statement.regency s.statement.collect → IsChosen secret (present views) stated (start_by_sync s.statement)
 unfolding choice
-chosen_by secret stated view views s same was collect =
+chosen_by secret stated views s was collect =
     let items : List (SignedBy Report) = s.statement.collect in
-    let locked : IsLockedCollect secret (present views) s.statement.regency items = record {
-      signed = locked_of secret (present views) views s.statement.regency items collect.0;
-      enough = collect.1;
-    } in
     record {
       items = items;
-      collect = subst (λ (v : View). IsLockedCollect secret v s.statement.regency items) same locked;
+      collect = record { signed = locked_of secret (present views) views s.statement.regency items collect.0; enough = collect.1 };
       drawn = each_from (λ r. Among (says.Reported r) stated) items
           (λ r there. covers secret stated (changes.Sync s) was (says.Reported r) (report_within s r there)
           (each_among (λ r. is_verified reports secret r ≡ true) items r collect.0.verified there));
       choice_is = refl;
     }
 
-pub sync_chosen : {S : Type 0} (stated : List Statement) (view : View) (n : Node S) (s : SignedBy Sync) → IsSound stated view n → SyncKept n stated view s
-    → s.statement.view ≡ (view_of n).number → IsChosen n.secret view stated (start_by_sync s.statement)
+pub sync_chosen : {S : Type 0} (stated : List Statement) (n : Node S) (s : SignedBy Sync) → SyncKept n stated s
+    → s.statement.view ≡ (view_of n).number → IsChosen n.secret (view_of n) stated (start_by_sync s.statement)
 unfolding is_collect
-sync_chosen stated view n s is kept at =
+sync_chosen stated n s kept at =
     let fault = collect_fault n.secret n.replica.views s.statement.regency s.statement.collect in
-    let valid : is_none fault ≡ true = (kept.0 (at ∙ ap (λ (v : View). v.number) (in_force stated view n is))).1 in
-    chosen_by n.secret stated view n.replica.views s (in_force stated view n is) kept.1
+    let valid : is_none fault ≡ true = (kept.0.1 at).1 in
+    chosen_by n.secret stated n.replica.views s kept.1
     ((collect-exact n.secret n.replica.views s.statement.regency s.statement.collect).0 (none_is fault valid))
 
 -- ---- a beginning that is adopted
@@ -125,38 +120,40 @@ with_entries n es = record n { entries = es }
 
 -- a regency that is in force begins
 begins_now : {S : Type 0} (stated : List Statement) (view : View) (n : Node S) (s : SignedBy Sync) → IsSound stated view n → Adopts n s → s.statement.regency ≡ regency_of n
-    → IsChosen n.secret view stated (start_by_sync s.statement) → IsSound stated view (with_entries n (n.entries ++ Synced (start_by_sync s.statement) ∷ []))
+    → IsChosen n.secret (view_of n) stated (start_by_sync s.statement) → IsSound stated view (with_entries n (n.entries ++ Synced (start_by_sync s.statement) ∷ []))
 unfolding with_entries
 begins_now stated view n s is a same chosen =
     records_start stated view n (start_by_sync s.statement) is a.view_is same a.some
     (λ other there v r. none_begins (view_of n).number (regency_of n) n.entries other (a.once same) there (v ∙ a.view_is) (r ∙ same)) chosen
 
 -- no entry begins a regency past the one in force
-none_later : (view : View) (place regency : ℕ) (es : List LogEntry) (p : Promise) (start other : Start) → Each (IsWithin view place regency) es → regency < start.regency
-    → Among (Synced other) (es ++ Promised p ∷ []) → other.regency ≡ start.regency → ⊥
-none_later view place regency es p start other all later there same =
+none_later : (views : List View) (place : ℕ) (es : List LogEntry) (p : Promise) (start other : Start) → Each (IsWithin views place es) es → greatest_regency start.view es < start.regency
+    → Among (Synced other) (es ++ Promised p ∷ []) → other.view ≡ start.view → other.regency ≡ start.regency → ⊥
+none_later views place es p start other all later there of same =
     ⊎_elim
     (λ (before : Among (Synced other) es).
-    let is = each_among (IsWithin view place regency) es (Synced other) all before in
-    let most : other.regency ≤ regency = is.most in
-    omega (arith, most, later, same))
+    let is = each_among (IsWithin views place es) es (Synced other) all before in
+    let most : other.regency ≤ greatest_regency other.view es = is.most in
+    let view : greatest_regency other.view es ≡ greatest_regency start.view es = ap (λ (k : ℕ). greatest_regency k es) of in
+    omega (arith, most, later, same, view))
     (λ (last : Among (Synced other) (Promised p ∷ [])). ⊎_elim (λ (clash : Synced other ≡ Promised p). cc) (λ none. absurd none) last)
     (among_either (Synced other) es (Promised p ∷ []) there)
 
 -- a later regency is promised, and begins
 begins_later : {S : Type 0} (stated : List Statement) (view : View) (n : Node S) (s : SignedBy Sync) → IsSound stated view n → Adopts n s → regency_of n < s.statement.regency
-    → IsChosen n.secret view stated (start_by_sync s.statement)
+    → IsChosen n.secret (view_of n) stated (start_by_sync s.statement)
     → IsSound stated view (with_entries n ((n.entries ++ Promised (record { view = s.statement.view; regency = s.statement.regency }) ∷ []) ++ Synced (start_by_sync s.statement) ∷ []))
-unfolding with_entries
+unfolding with_entries regency_of
 begins_later {S = S} stated view n s is a later chosen =
     let p : Promise = record { view = s.statement.view; regency = s.statement.regency } in
     let m : Node S = recording n (Promised p) in
     let promised : IsSound stated view m = records_promise stated view n p is a.view_is later in
+    let low : greatest_regency s.statement.view n.entries < s.statement.regency = subst (λ (k : ℕ). greatest_regency k n.entries < s.statement.regency) (sym a.view_is) later in
     records_start stated view m (start_by_sync s.statement) promised a.view_is (sym (regency_then n p a.view_is later)) a.some
-    (λ other there v r. none_later view (next_place n) (regency_of n) n.entries p (start_by_sync s.statement) other is.within later there r) chosen
+    (λ other there v r. none_later n.replica.views (next_place n) n.entries p (start_by_sync s.statement) other is.within low there v r) chosen
 
 entries_by : {S : Type 0} (stated : List Statement) (view : View) (n : Node S) (s : SignedBy Sync) (later : Bool) → nat_lt (regency_of n) s.statement.regency ≡ later
-    → IsSound stated view n → Adopts n s → IsChosen n.secret view stated (start_by_sync s.statement)
+    → IsSound stated view n → Adopts n s → IsChosen n.secret (view_of n) stated (start_by_sync s.statement)
     → IsSound stated view (with_entries n
     ((n.entries ++ cond later (Promised (record { view = s.statement.view; regency = s.statement.regency }) ∷ []) []) ++ Synced (start_by_sync s.statement) ∷ []))
 entries_by stated view n s true at is a chosen =
@@ -172,10 +169,10 @@ unfolding adopts_by with_entries
 adopts_with stated view n None is at = is
 adopts_with {S = S} stated view n (Some s) is at =
     let a = adopts_it n s at in
-    let kept = each_among (SyncKept n stated view) n.syncs s is.syncs a.there in
+    let kept = each_among (SyncKept n stated) n.syncs s is.syncs a.there in
     let r : ℕ = s.statement.regency in
     let es : List LogEntry = (n.entries ++ promised_for n s.statement) ++ Synced (start_by_sync s.statement) ∷ [] in
-    let begun : IsSound stated view (with_entries n es) = entries_by stated view n s (nat_lt (regency_of n) r) refl is a (sync_chosen stated view n s is kept a.view_is) in
+    let begun : IsSound stated view (with_entries n es) = entries_by stated view n s (nat_lt (regency_of n) r) refl is a (sync_chosen stated n s kept a.view_is) in
     aside stated view (with_entries n es) n.firm n.held n.proposed (n.stop_made && (r == regency_of n)) (n.sync_made && (r == regency_of n)) false n.behind begun begun.held begun.late
 
 pub sound_adopts : {S : Type 0} (stated : List Statement) (view : View) (n : Node S) → IsSound stated view n → IsSound stated view (adopts n)

@@ -1,15 +1,15 @@
 -- A node that keeps what comes stays sound.
-use Rattle.std.proofs.Common.{Bool, List, None, Option, Some, cond, filter, is_some, nat_le, nat_lt, not, subst, sym, true, ℕ, ⊎_elim, ◌≡◌, [], ◌∷◌, ◌==◌, ◌++◌, ◌||◌, ◌+◌}
+use Rattle.std.proofs.Common.{Bool, List, None, Option, Some, arith, cond, false, filter, is_some, nat_le, nat_lt, not, refl, subst, sym, true, ℕ, ⊎_elim, ◌≡◌, ◌≤◌, [], ◌∷◌, ◌==◌, ◌++◌, ◌||◌, ◌+◌}
 use Rattle.std.specs.List.{flat_map}
 use Rattle.std.specs.Prelude.{map, option_map}
-use Rattle.std.proofs.lemmas.Bool.{eqb-true}
+use Rattle.std.proofs.lemmas.Bool.{eqb-true, ltb-false, or_parts}
 use Rattle.replica_rules.specs.Pools.{offered}
 use Rattle.replica_rules.specs.Replicas.{is_next}
 use Rattle.replica_rules.specs.Seals.{digest_of, is_verified}
 use Rattle.agreement_laws.specs.Statements.{Statement}
 use Rattle.node_rules.specs.Arrivals.{is_batch_for, is_collect, is_proven, kept, noted, regency_why, signer_why, slot_why, tells_behind, view_why, why_ask, why_dropped, why_propose, why_report, why_stop, why_sync, why_vote, why_mark, why_decision, is_proven_batch, slot_shown}
-use Rattle.node_rules.specs.Nodes.{Node, decided_place, regency_of, view_of}
-use Rattle.node_rules.specs.declared.node.Why.TheVariants.{BadProof, BadTag, FarPlace, InvalidBatch, NotLeader, NotMember, OldPlace, OldRegency, Stranger}
+use Rattle.node_rules.specs.Nodes.{Node, decided_place, next_place, regency_of, view_of}
+use Rattle.node_rules.specs.declared.node.Why.TheVariants.{BadProof, BadTag, FarPlace, InvalidBatch, NewView, NotLeader, NotMember, OldPlace, OldRegency, OldView, Stranger}
 use Rattle.regency_sync.specs.Choices.{choice}
 use Rattle.smart_base.specs.Lists.{Each}
 use Rattle.smart_base.specs.Views.{View, is_member, leader}
@@ -43,8 +43,7 @@ use Rattle.smart_statements.specs.declared.statement.Request.{Request}
 use Rattle.smart_statements.specs.declared.statement.Slot.{Slot}
 use Rattle.node_laws.proofs.Nodes.{Arrived, DecisionKept, MarkKept, OfferKept, PlanKept, ReportKept, StopKept, SyncKept, aside, keeps, transfers}
 use Rattle.state_marks.specs.Tables as tables_of_marks
-use Rattle.node_laws.proofs.Votes.{in_force}
-use Rattle.node_laws.specs.Sound.{IsMembers, IsProposal, IsShownIn, IsSound, IsStated}
+use Rattle.node_laws.specs.Sound.{InForce, IsMembers, IsProposal, IsShownIn, IsSound, IsStated}
 use Rattle.smart_messages.specs.declared.message.Message.TheVariants as changes
 use Rattle.agreement_laws.proofs.Lists.{among_either, among_filtered, among_flat, among_left, among_map, each_end, either, given, not_false, within_one}
 use Rattle.node_rules.proofs.Options.{else_none, no_reason, none_is}
@@ -64,8 +63,19 @@ signs n verified signer none =
     let name = no_reason (not (is_member (view_of n) signer)) Stranger None tag.1 in
     record { tagged = not_false verified tag.0; member = not_false (is_member (view_of n) signer) name.0 }
 
-members_of : {S : Type 0} (n : Node S) (view : View) (verified : Bool) (signer : ℕ) → view_of n ≡ view → Signs n verified signer → IsMembers view verified signer
-members_of n view verified signer same s = record { tagged = s.tagged; member = subst (λ (v : View). is_member v signer ≡ true) same s.member }
+members_of : {S : Type 0} (n : Node S) (verified : Bool) (signer : ℕ) → signer_why n verified signer ≡ None → IsMembers (view_of n) verified signer
+members_of n verified signer none = let s = signs n verified signer none in record { tagged = s.tagged; member = s.member }
+
+-- what is not of another view is of none later
+not_newer : {S : Type 0} (n : Node S) (number : ℕ) → view_why n number ≡ None → number ≤ (view_of n).number
+not_newer n number none =
+    let old = no_reason (nat_lt number (view_of n).number) OldView _ none in
+    let new = no_reason (nat_lt (view_of n).number number) NewView _ old.1 in
+    ltb-false (view_of n).number number new.0
+
+slot_not_newer : {S : Type 0} (n : Node S) (slot : Slot) → slot_why n slot ≡ None → slot.view ≤ (view_of n).number
+unfolding slot_why
+slot_not_newer n slot none = not_newer n slot.view (else_none (view_why n slot.view) _ none).0
 
 -- ---- requests, proposals and votes
 
@@ -81,68 +91,63 @@ ask_tagged n q none =
     let own = no_reason (not (is_member (view_of n) n.id)) NotMember _ none in
     not_false (is_verified requests n.secret q) (no_reason (not (is_verified requests n.secret q)) BadTag _ own.1).0
 
-propose_kept : {S : Type 0} (stated : List Statement) (view : View) (n : Node S) (p : Proposed) → IsSound stated view n → why_propose n p ≡ None → IsProposal n.secret view p
+propose_kept : {S : Type 0} (n : Node S) (p : Proposed) → why_propose n p ≡ None → InForce (view_of n) p.head.statement.slot.view (IsProposal n.secret (view_of n) p)
 unfolding why_propose
-propose_kept stated view n p is none =
+propose_kept n p none =
     let slot : Slot = p.head.statement.slot in
     let lead : Bool = p.head.signer == leader (view_of n) slot.regency in
     let batch : Bool = is_batch_for n.secret slot.place p.head.statement.digest p.batch in
-    let same : view_of n ≡ view = in_force stated view n is in
     let first = else_none (signer_why n (is_verified proposals n.secret p.head) p.head.signer) _ none in
     let second = else_none (slot_why n slot) _ first.1 in
     let third = no_reason (not lead) NotLeader _ second.1 in
-    let fourth = no_reason (not batch) InvalidBatch _ third.1 in
-    record {
-      members = members_of n view (is_verified proposals n.secret p.head) p.head.signer same (signs n (is_verified proposals n.secret p.head) p.head.signer first.0);
-      leaders = subst (λ (v : View). p.head.signer ≡ leader v slot.regency) same (eqb-true p.head.signer (leader (view_of n) slot.regency) (not_false lead third.0));
-      batch = not_false batch fourth.0;
-    }
+    let fourth = no_reason (not batch) InvalidBatch _ third.1 in (
+      slot_not_newer n slot second.0,
+      λ of. record {
+        members = members_of n (is_verified proposals n.secret p.head) p.head.signer first.0;
+        leaders = eqb-true p.head.signer (leader (view_of n) slot.regency) (not_false lead third.0);
+        batch = not_false batch fourth.0;
+      },
+    )
 
-vote_kept : {S : Type 0} (stated : List Statement) (view : View) (n : Node S) (b : SignedBy Ballot) → IsSound stated view n → why_vote n b ≡ None
-    → IsMembers view (is_verified ballots n.secret b) b.signer
+vote_kept : {S : Type 0} (n : Node S) (b : SignedBy Ballot) → why_vote n b ≡ None → InForce (view_of n) b.statement.slot.view (IsMembers (view_of n) (is_verified ballots n.secret b) b.signer)
 unfolding why_vote
-vote_kept stated view n b is none =
+vote_kept n b none =
     let first = else_none (signer_why n (is_verified ballots n.secret b) b.signer) _ none in
-    members_of n view (is_verified ballots n.secret b) b.signer (in_force stated view n is) (signs n (is_verified ballots n.secret b) b.signer first.0)
+    let second = else_none (slot_why n b.statement.slot) _ first.1 in
+    (slot_not_newer n b.statement.slot second.0, λ of. members_of n (is_verified ballots n.secret b) b.signer first.0)
 
 -- ---- what changes the regency
 
-stop_kept : {S : Type 0} (stated : List Statement) (view : View) (n : Node S) (s : SignedBy Stop) → IsSound stated view n → why_stop n s ≡ None
-    → IsMembers view (is_verified stops n.secret s) s.signer
+stop_kept : {S : Type 0} (n : Node S) (s : SignedBy Stop) → why_stop n s ≡ None → InForce (view_of n) s.statement.view (IsMembers (view_of n) (is_verified stops n.secret s) s.signer)
 unfolding why_stop
-stop_kept stated view n s is none =
+stop_kept n s none =
     let first = else_none (signer_why n (is_verified stops n.secret s) s.signer) _ none in
-    members_of n view (is_verified stops n.secret s) s.signer (in_force stated view n is) (signs n (is_verified stops n.secret s) s.signer first.0)
+    let second = else_none (view_why n s.statement.view) _ first.1 in
+    (not_newer n s.statement.view second.0, λ of. members_of n (is_verified stops n.secret s) s.signer first.0)
 
-report_kept : {S : Type 0} (stated : List Statement) (view : View) (n : Node S) (r : Reported) → IsSound stated view n → why_report n r ≡ None
-    → IsMembers view (is_verified reports n.secret r.head) r.head.signer × (is_proven n r ≡ true)
+report_kept : {S : Type 0} (n : Node S) (r : Reported) → why_report n r ≡ None
+    → InForce (view_of n) r.head.statement.view (IsMembers (view_of n) (is_verified reports n.secret r.head) r.head.signer × (is_proven n r ≡ true))
 unfolding why_report
-report_kept stated view n r is none =
+report_kept n r none =
     let lead : Bool = leader (view_of n) r.head.statement.regency == n.id in
     let first = else_none (signer_why n (is_verified reports n.secret r.head) r.head.signer) _ none in
     let second = else_none (view_why n r.head.statement.view) _ first.1 in
     let third = else_none (regency_why n r.head.statement.regency) _ second.1 in
     let fourth = no_reason (not lead) NotLeader _ third.1 in
-    let fifth = no_reason (not (is_proven n r)) BadProof _ fourth.1 in (
-      members_of n view (is_verified reports n.secret r.head) r.head.signer (in_force stated view n is)
-          (signs n (is_verified reports n.secret r.head) r.head.signer first.0),
-      not_false (is_proven n r) fifth.0,
-    )
+    let fifth = no_reason (not (is_proven n r)) BadProof _ fourth.1 in
+    (not_newer n r.head.statement.view second.0, λ of. (members_of n (is_verified reports n.secret r.head) r.head.signer first.0, not_false (is_proven n r) fifth.0))
 
-sync_kept : {S : Type 0} (stated : List Statement) (view : View) (n : Node S) (s : SignedBy Sync) → IsSound stated view n → why_sync n s ≡ None
-    → IsMembers view (is_verified syncs n.secret s) s.signer × (is_collect n s.statement ≡ true)
+sync_kept : {S : Type 0} (n : Node S) (s : SignedBy Sync) → why_sync n s ≡ None
+    → InForce (view_of n) s.statement.view (IsMembers (view_of n) (is_verified syncs n.secret s) s.signer × (is_collect n s.statement ≡ true))
 unfolding why_sync
-sync_kept stated view n s is none =
+sync_kept n s none =
     let lead : Bool = s.signer == leader (view_of n) s.statement.regency in
     let first = else_none (signer_why n (is_verified syncs n.secret s) s.signer) _ none in
     let second = else_none (view_why n s.statement.view) _ first.1 in
     let third = no_reason (nat_lt s.statement.regency (regency_of n)) OldRegency _ second.1 in
     let fourth = no_reason (not lead) NotLeader _ third.1 in
-    let fifth = no_reason (not (is_collect n s.statement)) BadProof _ fourth.1 in (
-      members_of n view (is_verified syncs n.secret s) s.signer (in_force stated view n is)
-          (signs n (is_verified syncs n.secret s) s.signer first.0),
-      not_false (is_collect n s.statement) fifth.0,
-    )
+    let fifth = no_reason (not (is_collect n s.statement)) BadProof _ fourth.1 in
+    (not_newer n s.statement.view second.0, λ of. (members_of n (is_verified syncs n.secret s) s.signer first.0, not_false (is_collect n s.statement) fifth.0))
 
 -- ---- what members exchange to take over a replica
 
@@ -152,28 +157,29 @@ proven_is n d is =
     (votes-exact n.secret (view_of n) (accept_of (slot_shown n d) (digest_of d.batch)) d.accepts).0
     (none_is (votes_fault n.secret (view_of n) (accept_of (slot_shown n d) (digest_of d.batch)) d.accepts) is)
 
-decision_kept : {S : Type 0} (stated : List Statement) (view : View) (n : Node S) (d : ProvenBatch) → IsSound stated view n → why_decision n d ≡ None → IsShownIn n.secret view d
+free_next : {A : Type 0} (waiting : Option A) (place : ℕ) → is_some waiting ≡ false → cond (is_some waiting) (place + 1) place + 1 ≡ place + 1
+free_next None place free = refl
+free_next (Some x) place free = absurd (cc)
+
+-- it is of the next place, and proven there
+decision_kept : {S : Type 0} (n : Node S) (d : ProvenBatch) → why_decision n d ≡ None → (d.place ≤ next_place n) × (d.place ≡ next_place n → IsShownIn n.secret (view_of n) d)
 unfolding why_decision
-decision_kept stated view n d is none =
+decision_kept n d none =
     let batch : Bool = is_batch_for n.secret d.place (digest_of d.batch) d.batch in
     let first = no_reason (nat_le d.place (decided_place n)) OldPlace _ none in
     let second = no_reason (nat_lt (decided_place n + 1) d.place || is_some n.waiting) FarPlace _ first.1 in
     let third = no_reason (not batch) InvalidBatch _ second.1 in
     let fourth = no_reason (not (is_proven_batch n d)) BadProof _ third.1 in
-    subst (λ (v : View). IsShownIn n.secret v d) (in_force stated view n is) (record {
-      accepts = proven_is n d (not_false (is_proven_batch n d) fourth.0);
-      batch = not_false batch third.0;
-    })
+    let near = or_parts (nat_lt (decided_place n + 1) d.place) (is_some n.waiting) second.0 in
+    let low = ltb-false (decided_place n + 1) d.place near.0 in
+    let next = free_next n.waiting n.replica.place near.1 in (
+      omega (arith, low, next),
+      λ at. record { accepts = proven_is n d (not_false (is_proven_batch n d) fourth.0); batch = not_false batch third.0 },
+    )
 
-mark_kept : {S : Type 0} (stated : List Statement) (view : View) (n : Node S) (m : SignedBy Mark) → IsSound stated view n → why_mark n m ≡ None → IsMembers view (is_verified marks n.secret m) m.signer
+mark_kept : {S : Type 0} (n : Node S) (m : SignedBy Mark) → why_mark n m ≡ None → is_verified marks n.secret m ≡ true
 unfolding why_mark
-mark_kept stated view n m is none =
-    let tag = no_reason (not (is_verified marks n.secret m)) BadTag _ none in
-    let name = no_reason (not (is_member (view_of n) m.signer)) Stranger _ tag.1 in
-    record {
-      tagged = not_false (is_verified marks n.secret m) tag.0;
-      member = subst (λ (v : View). is_member v m.signer ≡ true) (in_force stated view n is) (not_false (is_member (view_of n) m.signer) name.0);
-    }
+mark_kept n m none = not_false (is_verified marks n.secret m) (no_reason (not (is_verified marks n.secret m)) BadTag _ none).0
 
 each_noted : (P : SignedBy Mark → Type 0) (m : SignedBy Mark) (table : List (SignedBy Mark)) → Each P table → P m → Each P (tables_of_marks.noted m table)
 unfolding tables_of_marks.noted
@@ -203,10 +209,10 @@ offer_kept secret stated o was = (
   each_passes (is_verified marks secret) o.marks,
 )
 
-part_kept : (secret : List ℕ) (stated : List Statement) (view : View) (planned : Option Fetch) (p : StatePart) → PlanKept secret stated view planned
-    → PlanKept secret stated view (option_map (λ (f : Fetch). kept_unless None f p) planned)
-part_kept secret stated view None p is = tt
-part_kept secret stated view (Some f) p is = is
+part_kept : (secret : List ℕ) (stated : List Statement) (views : List View) (planned : Option Fetch) (p : StatePart) → PlanKept secret stated views planned
+    → PlanKept secret stated views (option_map (λ (f : Fetch). kept_unless None f p) planned)
+part_kept secret stated views None p is = tt
+part_kept secret stated views (Some f) p is = is
 
 -- ---- what comes
 
@@ -221,31 +227,32 @@ sound_arrived {S = S} stated view n (Ask q) behind is none was =
     (aside stated view n n.firm n.held n.proposed n.stop_made n.sync_made n.impatient behind is is.held is.late)
 sound_arrived stated view n (Propose p) behind is none was =
     keeps stated view n n.pool (n.arrivals ++ Propose p ∷ []) n.stops n.reports n.syncs behind is is.pool
-    (each_end (Arrived n.secret stated view) n.arrivals (Propose p) is.arrivals (λ of. propose_kept stated view n p is none, was)) is.stops is.reports is.syncs
+    (each_end (Arrived n.secret stated (view_of n)) n.arrivals (Propose p) is.arrivals (propose_kept n p none, was)) is.stops is.reports is.syncs
 sound_arrived stated view n (Vote b) behind is none was =
     keeps stated view n n.pool (n.arrivals ++ Vote b ∷ []) n.stops n.reports n.syncs behind is is.pool
-    (each_end (Arrived n.secret stated view) n.arrivals (Vote b) is.arrivals (λ of. vote_kept stated view n b is none, was)) is.stops is.reports is.syncs
+    (each_end (Arrived n.secret stated (view_of n)) n.arrivals (Vote b) is.arrivals (vote_kept n b none, was)) is.stops is.reports is.syncs
 sound_arrived stated view n (changes.Stop s) behind is none was =
     keeps stated view n n.pool n.arrivals (n.stops ++ s ∷ []) n.reports n.syncs behind is is.pool is.arrivals
-    (each_end (StopKept n.secret stated view) n.stops s is.stops (λ of. stop_kept stated view n s is none, was)) is.reports is.syncs
+    (each_end (StopKept n.secret stated (view_of n)) n.stops s is.stops (stop_kept n s none, was)) is.reports is.syncs
 sound_arrived stated view n (changes.StopData r) behind is none was =
     keeps stated view n n.pool n.arrivals n.stops (n.reports ++ r ∷ []) n.syncs behind is is.pool is.arrivals is.stops
-    (each_end (ReportKept n stated view) n.reports r is.reports (λ of. report_kept stated view n r is none, was)) is.syncs
+    (each_end (ReportKept n stated) n.reports r is.reports (report_kept n r none, was)) is.syncs
 sound_arrived stated view n (changes.Sync s) behind is none was =
     keeps stated view n n.pool n.arrivals n.stops n.reports (n.syncs ++ s ∷ []) (behind || nat_lt (decided_place n + 1) (choice s.statement.collect).base) is is.pool is.arrivals is.stops is.reports
-    (each_end (SyncKept n stated view) n.syncs s is.syncs (λ of. sync_kept stated view n s is none, was))
+    (each_end (SyncKept n stated) n.syncs s is.syncs (sync_kept n s none, was))
 sound_arrived stated view n (changes.Decision d) behind is none was =
     transfers stated view n (n.decisions ++ d ∷ []) n.offers n.marks n.fetch behind is
-    (each_end (DecisionKept n.secret stated view) n.decisions d is.decisions (was, decision_kept stated view n d is none)) is.offers is.marked is.fetch
+    (each_end (DecisionKept n.secret stated (next_place n) (view_of n)) n.decisions d is.decisions
+    (let shown = decision_kept n d none in (was, shown.0, shown.1))) is.offers is.marked is.fetch
 sound_arrived stated view n (changes.Mark m) behind is none was =
     transfers stated view n n.decisions n.offers (tables_of_marks.noted m n.marks) n.fetch behind is is.decisions is.offers
-    (each_noted (MarkKept n.secret stated view) m n.marks is.marked (mark_kept stated view n m is none, was)) is.fetch
+    (each_noted (MarkKept n.secret stated) m n.marks is.marked (mark_kept n m none, was)) is.fetch
 sound_arrived stated view n (changes.StateOffer o) behind is none was =
     transfers stated view n n.decisions (n.offers ++ verified_offer n.secret o ∷ []) n.marks n.fetch behind is is.decisions
     (each_end (OfferKept n.secret stated) n.offers (verified_offer n.secret o) is.offers (offer_kept n.secret stated o was)) is.marked is.fetch
 sound_arrived stated view n (changes.StatePart p) behind is none was =
     transfers stated view n n.decisions n.offers n.marks (option_map (λ (f : Fetch). kept_unless None f p) n.fetch) behind is is.decisions is.offers is.marked
-    (part_kept n.secret stated view n.fetch p is.fetch)
+    (part_kept n.secret stated n.replica.views n.fetch p is.fetch)
 sound_arrived stated view n _ behind is none was = aside stated view n n.firm n.held n.proposed n.stop_made n.sync_made n.impatient behind is is.held is.late
 
 pub sound_noted : {S : Type 0} (stated : List Statement) (view : View) (n : Node S) (message : Message) → IsSound stated view n → IsSound stated view (noted n message)

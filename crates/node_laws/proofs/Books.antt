@@ -1,6 +1,6 @@
 -- What stays of a book's entries where one more is pushed.
 -- ---- regencies
-use Rattle.std.proofs.Common.{Bool, List, None, Option, Some, ap, arith, cond, false, inl, inr, length-append, max, nat_lt, refl, subst, sym, take, true, ℕ, ⊎_elim, ◌+◌, ◌++◌, ◌∷◌, [], ◌≡◌, ◌≤◌, ◌<◌, ◌==◌, ◌∙◌, ◌&&◌, ◌⊎◌}
+use Rattle.std.proofs.Common.{Bool, List, None, Option, Some, ap, arith, cond, false, inl, inr, length-append, max, nat_lt, refl, subst, suc, sym, take, true, zero, ℕ, ⊎_elim, ◌+◌, ◌++◌, ◌∷◌, [], ◌≡◌, ◌≤◌, ◌<◌, ◌==◌, ◌∙◌, ◌&&◌, ◌⊎◌}
 use Rattle.std.proofs.lemmas.Bool.{eq-eqb, eqb-true, ltb-false, ltb-true}
 use Rattle.std.proofs.lemmas.List.{take-append-le}
 use Rattle.std.specs.Prelude.{IfSome, is_some}
@@ -22,9 +22,9 @@ use Rattle.vote_book.specs.declared.entry.LogEntry.TheVariants.{Accepted, Decide
 use Rattle.vote_book.specs.declared.entry.Promise.{Promise}
 use Rattle.vote_book.specs.declared.entry.Start.{Start}
 use Rattle.node_laws.proofs.Lists.{guard}
-use Rattle.node_laws.specs.Sound.{AreLate, AreRangedPast, HasDecided, IsBegun, IsHeld, IsPast, IsWithin}
+use Rattle.node_laws.specs.Sound.{AreLate, ArePromisedUpTo, AreRangedPast, HasDecided, IsBegun, IsHeld, IsKnown, IsNewest, IsPast, IsRanged, IsWithin}
 use Rattle.agreement_laws.proofs.Growing.{HasReached-more}
-use Rattle.agreement_laws.proofs.Lists.{among_left, each_end, some_equal}
+use Rattle.agreement_laws.proofs.Lists.{among_left, each_among, each_end, some_equal}
 use Rattle.smart_base.proofs.SameLists.{and_true}
 use Rattle.smart_base.proofs.ViewFacts.{each-weaken}
 
@@ -32,57 +32,89 @@ pub greatest_push : (view : ℕ) (es : List LogEntry) (e : LogEntry) → greates
 greatest_push view [] e = omega arith
 greatest_push view (y ∷ ys) e = let rest = greatest_push view ys e in omega arith
 
--- a slot, or a promise, within bounds is within greater ones
-pub within_more : (view : View) (place regency place' regency' : ℕ) (e : LogEntry) → place ≤ place' → regency ≤ regency' → IsWithin view place regency e → IsWithin view place' regency' e
-within_more view place regency place' regency' (Opened o) p r is = tt
-within_more view place regency place' regency' (Wrote w) p r is = let a = is.place_is in let b = is.regency_is in record { of_view = is.of_view; place_is = omega arith; regency_is = omega arith }
-within_more view place regency place' regency' (Accepted a) p r is = let x = is.place_is in let y = is.regency_is in record { of_view = is.of_view; place_is = omega arith; regency_is = omega arith }
-within_more view place regency place' regency' (Promised q) p r is = let b = is.most in record { of_view = is.of_view; some = is.some; most = omega arith }
-within_more view place regency place' regency' (Synced s) p r is = let b = is.most in record { of_view = is.of_view; some = is.some; most = omega arith }
-within_more view place regency place' regency' (Decided d) p r is = let a = is.place_is in record { of_view = is.of_view; place_is = omega arith }
-within_more view place regency place' regency' (Installed i) p r is = is
-within_more view place regency place' regency' (Marked m) p r is = omega (arith, is, p)
+-- an entry within a place and what is promised is within a later place, and within more that is promised in its view
+within_of : (views : List View) (place place' : ℕ) (before es es' : List LogEntry) (e : LogEntry) → place ≤ place'
+    → ((k : ℕ) → ArePromisedUpTo k before → greatest_regency k es ≤ greatest_regency k es') → IsNewest before e → IsWithin views place es e → IsWithin views place' es' e
+within_of views place place' before es es' (Opened o) p more newest is = tt
+within_of views place place' before es es' (Wrote w) p more newest is =
+    let a = is.place_is in let b = is.regency_is in let r = more w.slot.view newest in record { of_view = is.of_view; place_is = omega (arith, a, p); regency_is = omega (arith, b, r) }
+within_of views place place' before es es' (Accepted x) p more newest is =
+    let a = is.place_is in let b = is.regency_is in let r = more x.slot.view newest in record { of_view = is.of_view; place_is = omega (arith, a, p); regency_is = omega (arith, b, r) }
+within_of views place place' before es es' (Promised q) p more newest is = let b = is.most in let r = more q.view newest in record { of_view = is.of_view; some = is.some; most = omega (arith, b, r) }
+within_of views place place' before es es' (Synced s) p more newest is = let b = is.most in let r = more s.view newest in record { of_view = is.of_view; some = is.some; most = omega (arith, b, r) }
+within_of views place place' before es es' (Decided d) p more newest is = let a = is.place_is in record { of_view = is.of_view; place_is = omega (arith, a, p) }
+within_of views place place' before es es' (Installed i) p more newest is = is
+within_of views place place' before es es' (Marked m) p more newest is = omega (arith, is, p)
 
-pub all_within_more : (view : View) (place regency place' regency' : ℕ) (es : List LogEntry) → place ≤ place' → regency ≤ regency'
-    → Each (IsWithin view place regency) es → Each (IsWithin view place' regency') es
-all_within_more view place regency place' regency' es p r all =
-    each-weaken (IsWithin view place regency) (IsWithin view place' regency') (λ e is. within_more view place regency place' regency' e p r is) es all
+none_newest : (e : LogEntry) → IsNewest [] e
+none_newest (Opened o) = tt
+none_newest (Wrote w) = λ p none. absurd none
+none_newest (Accepted a) = λ p none. absurd none
+none_newest (Promised q) = λ p none. absurd none
+none_newest (Synced s) = λ p none. absurd none
+none_newest (Decided d) = tt
+none_newest (Installed i) = tt
+none_newest (Marked m) = tt
 
-pub within_push : (view : View) (number place : ℕ) (es : List LogEntry) (e : LogEntry) → Each (IsWithin view place (greatest_regency number es)) es
-    → IsWithin view place (max (greatest_regency number es) (regency_in number e)) e → Each (IsWithin view place (greatest_regency number (es ++ e ∷ []))) (es ++ e ∷ [])
-within_push view number place es e all is =
-    let grown : greatest_regency number (es ++ e ∷ []) ≡ max (greatest_regency number es) (regency_in number e) = greatest_push number es e in
-    let r : ℕ = greatest_regency number (es ++ e ∷ []) in
-    each_end (IsWithin view place r) es e
-    (all_within_more view place (greatest_regency number es) place r es (omega arith) (omega (arith, grown)) all)
-    (subst (λ (k : ℕ). IsWithin view place k e) (sym grown) is)
+pub within_more : (views : List View) (place place' : ℕ) (es es' : List LogEntry) (e : LogEntry) → place ≤ place' → ((k : ℕ) → greatest_regency k es ≤ greatest_regency k es')
+    → IsWithin views place es e → IsWithin views place' es' e
+within_more views place place' es es' e p more is = within_of views place place' [] es es' e p (λ k none. more k) (none_newest e) is
+
+pub all_within_more : (views : List View) (place place' : ℕ) (es es' entries : List LogEntry) → place ≤ place' → ((k : ℕ) → greatest_regency k es ≤ greatest_regency k es')
+    → Each (IsWithin views place es) entries → Each (IsWithin views place' es') entries
+all_within_more views place place' es es' entries p more all =
+    each-weaken (IsWithin views place es) (IsWithin views place' es') (λ e is. within_more views place place' es es' e p more is) entries all
+
+-- one more entry promises no less
+pub promised_push : (es : List LogEntry) (e : LogEntry) (k : ℕ) → greatest_regency k es ≤ greatest_regency k (es ++ e ∷ [])
+promised_push es e k = let grown = greatest_push k es e in omega (arith, grown)
+
+pub within_push : (views : List View) (place : ℕ) (es : List LogEntry) (e : LogEntry) → Each (IsWithin views place es) es → IsWithin views place (es ++ e ∷ []) e
+    → Each (IsWithin views place (es ++ e ∷ [])) (es ++ e ∷ [])
+within_push views place es e all is =
+    each_end (IsWithin views place (es ++ e ∷ [])) es e (all_within_more views place place es (es ++ e ∷ []) es (omega arith) (λ k. promised_push es e k) all) is
 
 -- ---- what each entry is within by those before it
 
-pub none_ranged : (opening : ℕ) (view : View) → AreRangedPast opening view []
-none_ranged opening view before entry after split = absurd (none before split)
+-- an entry is no older than what other entries promise, if they promise no later view
+pub newest_from : (before before' : List LogEntry) (e : LogEntry) → ((k : ℕ) → ArePromisedUpTo k before → ArePromisedUpTo k before') → IsNewest before e → IsNewest before' e
+newest_from before before' (Opened o) upto is = tt
+newest_from before before' (Wrote w) upto is = upto w.slot.view is
+newest_from before before' (Accepted a) upto is = upto a.slot.view is
+newest_from before before' (Promised q) upto is = upto q.view is
+newest_from before before' (Synced s) upto is = upto s.view is
+newest_from before before' (Decided d) upto is = tt
+newest_from before before' (Installed i) upto is = tt
+newest_from before before' (Marked m) upto is = tt
+
+-- an entry within a place behind some entries is so behind others that promise as much in its view, and no later view
+pub ranged_of : (views : List View) (place place' : ℕ) (before before' : List LogEntry) (e : LogEntry) → place ≤ place'
+    → ((k : ℕ) → ArePromisedUpTo k before → greatest_regency k (before ++ e ∷ []) ≤ greatest_regency k (before' ++ e ∷ []))
+    → ((p : Promise) → Among (Promised p) before' → Among (Promised p) before) → IsRanged views place before e → IsRanged views place' before' e
+ranged_of views place place' before before' e p more fewer is = record {
+  within = within_of views place place' before (before ++ e ∷ []) (before' ++ e ∷ []) e p more is.newest is.within;
+  newest = newest_from before before' e (λ k upto p there. upto p (fewer p there)) is.newest;
+}
+
+pub none_ranged : (opening : ℕ) (views : List View) → AreRangedPast opening views []
+none_ranged opening views before entry after split = absurd (none before split)
   where
     none : (xs : List LogEntry) → [] ≡ xs ++ entry ∷ after → ⊥
     none [] same = cc
     none (x ∷ xs) same = cc
 
-pub ranged_push : (opening : ℕ) (view : View) (es : List LogEntry) (e : LogEntry) → AreRangedPast opening view es
-    → IsWithin view (max opening (last_made es) + 1) (greatest_regency view.number (es ++ e ∷ [])) e → AreRangedPast opening view (es ++ e ∷ [])
-ranged_push opening view es e ranged within before entry after split =
+pub ranged_push : (opening : ℕ) (views : List View) (es : List LogEntry) (e : LogEntry) → AreRangedPast opening views es
+    → IsRanged views (max opening (last_made es) + 1) es e → AreRangedPast opening views (es ++ e ∷ [])
+ranged_push opening views es e ranged within before entry after split =
     ⊎_elim
-    (λ last. subst (λ (b : List LogEntry). IsWithin view (max opening (last_made b) + 1) (greatest_regency view.number (b ++ entry ∷ [])) entry) last.0
-    (subst (λ (x : LogEntry). IsWithin view (max opening (last_made es) + 1) (greatest_regency view.number (es ++ x ∷ [])) x) last.1 within))
+    (λ last. subst (λ (b : List LogEntry). IsRanged views (max opening (last_made b) + 1) b entry) last.0
+    (subst (λ (x : LogEntry). IsRanged views (max opening (last_made es) + 1) es x) last.1 within))
     (λ earlier. ranged before entry earlier.after earlier.split)
     (last_or_earlier es e before entry after split)
 
--- a node's place and regency are no more than what the book leaves open
-pub within_at : (view : View) (number place : ℕ) (es : List LogEntry) (e : LogEntry) → number ≡ view.number → place ≤ last_made es + 1
-    → IsWithin view place (max (greatest_regency number es) (regency_in number e)) e → IsWithin view (last_made es + 1) (greatest_regency view.number (es ++ e ∷ [])) e
-within_at view number place es e same least is =
-    let grown = greatest_push number es e in
-    let in_view : greatest_regency number (es ++ e ∷ []) ≡ greatest_regency view.number (es ++ e ∷ []) = ap (λ (k : ℕ). greatest_regency k (es ++ e ∷ [])) same in
-    within_more view place (max (greatest_regency number es) (regency_in number e)) (last_made es + 1) (greatest_regency view.number (es ++ e ∷ [])) e least
-    (omega (arith, grown, in_view)) is
+-- what the entries of a book promise is of known views
+pub promises_known : (views : List View) (place : ℕ) (es : List LogEntry) → Each (IsWithin views place es) es → (p : Promise) → Among (Promised p) es → IsKnown views p.view
+promises_known views place es all p there = (each_among (IsWithin views place es) es (Promised p) all there).of_view
 
 pub least_decided : {A : Type 0} (waiting : Option A) (place : ℕ) → place ≤ cond (is_some waiting) (place + 1) place
 least_decided None place = omega arith
@@ -126,6 +158,37 @@ greatest_step view (Marked m) es rest later some = later_greatest view (Marked m
 pub promised_greatest : (view : ℕ) (es : List LogEntry) → 0 < greatest_regency view es → Among (promise_of view (greatest_regency view es)) es
 promised_greatest view [] some = absurd (omega (arith, some))
 promised_greatest view (e ∷ es) some = greatest_step view e es (greatest_regency view es) (promised_greatest view es) some
+
+-- ---- what several entries promise
+
+pub promise_in : (number : ℕ) (p : Promise) → p.view ≡ number → regency_in number (Promised p) ≡ p.regency
+promise_in number p same = rw (eq-eqb p.view number same) refl
+
+pub greatest_append : (view : ℕ) (xs ys : List LogEntry) → greatest_regency view (xs ++ ys) ≡ max (greatest_regency view xs) (greatest_regency view ys)
+greatest_append view [] ys = omega arith
+greatest_append view (x ∷ xs) ys = let rest = greatest_append view xs ys in omega (arith, rest)
+
+regency_most : (view : ℕ) (es : List LogEntry) (e : LogEntry) → Among e es → regency_in view e ≤ greatest_regency view es
+regency_most view [] e there = absurd there
+regency_most view (x ∷ xs) e (inl same) = let here : regency_in view e ≡ regency_in view x = ap (λ (y : LogEntry). regency_in view y) same in omega (arith, here)
+regency_most view (x ∷ xs) e (inr there) = let rest = regency_most view xs e there in omega (arith, rest)
+
+pub promise_most : (view : ℕ) (es : List LogEntry) (p : Promise) → p.view ≡ view → Among (Promised p) es → p.regency ≤ greatest_regency view es
+promise_most view es p at there =
+    let most = regency_most view es (Promised p) there in
+    let is_in : regency_in view (Promised p) ≡ p.regency = promise_in view p at in
+    omega (arith, most, is_in)
+
+pub fewer_promise : (view : ℕ) (xs ys : List LogEntry) → ((e : LogEntry) → Among e xs → Among e ys) → greatest_regency view xs ≤ greatest_regency view ys
+fewer_promise view xs ys all = by (greatest_regency view xs) refl
+  where
+    by : (r : ℕ) → greatest_regency view xs ≡ r → r ≤ greatest_regency view ys
+    by zero is = omega arith
+    by (suc r) is =
+        let some : 0 < greatest_regency view xs = omega (arith, is) in
+        let most : greatest_regency view xs ≤ greatest_regency view ys =
+        promise_most view ys (record { view = view; regency = greatest_regency view xs }) refl (all (promise_of view (greatest_regency view xs)) (promised_greatest view xs some)) in
+        omega (arith, most, is)
 
 -- ---- beginnings
 
@@ -202,12 +265,12 @@ held_push secret id stated es e h is =
     }
 
 -- what is held is as late
-pub late_push : (secret : List ℕ) (stated : List Statement) (view restored : ℕ) (es : List LogEntry) (e : LogEntry) (held : List Held) → AreLate secret stated view restored es held
-    → AreLate secret stated view restored (es ++ e ∷ []) held
-late_push secret stated view restored es e held is =
+pub late_push : (secret : List ℕ) (stated : List Statement) (restored : ℕ) (es : List LogEntry) (e : LogEntry) (held : List Held) → AreLate secret stated restored es held
+    → AreLate secret stated restored (es ++ e ∷ []) held
+late_push secret stated restored es e held is =
     let few = is.few in
     let same : take restored (es ++ e ∷ []) ≡ take restored es = take-append-le restored es (e ∷ []) few in
     record {
       few = omega (arith, few, length-append es (e ∷ []));
-      each = subst (λ (front : List LogEntry). Each (λ (h : Held). Each (λ s. Among s stated ⊎ IsPast view front s) (statements secret h.message)) held) (sym same) is.each;
+      each = subst (λ (front : List LogEntry). Each (λ (h : Held). Each (λ s. Among s stated ⊎ IsPast front s) (statements secret h.message)) held) (sym same) is.each;
     }

@@ -192,10 +192,10 @@ kept_certificate secret stated view arrivals kind slot digest viewed at kept eno
 
     signed : AreSigned Ballot secret ballots view (λ b. b ≡ record { kind = kind; slot = slot; digest = digest }) votes
     signed = record {
-      members = each_filter_map (λ (b : SignedBy Ballot). is_member view b.signer ≡ true) f named (λ m b is. ((arrived m b is).0 (of_view m b is)).member);
+      members = each_filter_map (λ (b : SignedBy Ballot). is_member view b.signer ≡ true) f named (λ m b is. ((arrived m b is).0.1 (of_view m b is)).member);
       distinct = subst Distinct (sym own) (rising_distinct 0 named (rising_take (quorum view) 0 (filter p view.members) (rising_filter p 0 view.members (view_rising view viewed))));
       stated = each_filter_map (λ (b : SignedBy Ballot). b.statement ≡ record { kind = kind; slot = slot; digest = digest }) f named (λ m b is. (first_is arrivals kind slot digest m b is).statement_is);
-      verified = each_filter_map (λ (b : SignedBy Ballot). is_verified ballots secret b ≡ true) f named (λ m b is. ((arrived m b is).0 (of_view m b is)).tagged);
+      verified = each_filter_map (λ (b : SignedBy Ballot). is_verified ballots secret b ≡ true) f named (λ m b is. ((arrived m b is).0.1 (of_view m b is)).tagged);
     }
 
     weigh : quorum view ≤ weight_of view (signers votes)

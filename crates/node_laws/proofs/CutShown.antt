@@ -1,5 +1,5 @@
 -- What a node's book shows behind a cut all that was written shows, if the node's reports are of this life.
-use Rattle.std.proofs.Common.{List, ap, append-nil, append_assoc, arith, drop, inl, inr, length, max, subst, suc, sym, take, ℕ, ⊎_elim, ◌≡◌, ◌⊎◌, ◌≤◌, ◌<◌, ◌∙◌, ◌+◌, ◌++◌, ◌∷◌, []}
+use Rattle.std.proofs.Common.{List, ap, append-nil, append_assoc, arith, drop, inl, inr, length, max, subst, suc, sym, take, ℕ, ⊎_elim, ◌≡◌, ◌⊎◌, ◌≤◌, ◌<◌, ◌∙◌, ◌+◌, ◌++◌, ◌∷◌, [], refl}
 use Rattle.std.proofs.lemmas.List.{take-append-drop}
 use Rattle.std.proofs.Math.Seq.{take-append_seam}
 use Rattle.agreement_laws.specs.Diaries.{HasReported, HasVoted, IsShown}
@@ -29,7 +29,7 @@ use Rattle.book_laws.proofs.Lists.{InFirst, InSecond, among_either, among_left, 
 use Rattle.book_laws.proofs.Places.{last_append}
 use Rattle.node_rules.specs.Nodes.{Node, greatest_regency}
 use Rattle.node_rules.specs.declared.node.Held.{Held}
-use Rattle.node_laws.proofs.Cuts.{book_of_view, promise_most}
+use Rattle.node_laws.proofs.Books.{promise_most}
 use Rattle.node_laws.proofs.CutNodes.{sound_written}
 use Rattle.node_laws.specs.Restored.{IsSoundBook}
 use Rattle.node_laws.specs.Sound.{IsHeld, IsPast, IsSound}
@@ -63,32 +63,30 @@ reported_behind place diary more before r after has lawful reports at =
     record { before = diary ++ at.more; after = after; split = whole; reports = (cut_reports digest_of r place (diary ++ at.more) front).0 behind }
 
 -- no promise of the cut is of its regency
-none_before : (secret : List ℕ) (stated : List Statement) (view : View) (place : ℕ) (diary before : List LogEntry) (r : Report) → IsSoundBook secret stated view diary
-    → greatest_regency view.number (cut_at place diary) < r.regency → InFirst (cut_at place diary) before (promise_of r.view r.regency) → ⊥
-none_before secret stated view place diary before r book past at =
+none_before : (place : ℕ) (diary before : List LogEntry) (r : Report) → greatest_regency r.view (cut_at place diary) < r.regency → InFirst (cut_at place diary) before (promise_of r.view r.regency) → ⊥
+none_before place diary before r past at =
     let there : Among (promise_of r.view r.regency) (cut_at place diary) = among_split (promise_of r.view r.regency) (cut_at place diary) before at.rest at.split in
-    let of : r.view ≡ view.number = book_of_view secret stated view diary book (record { view = r.view; regency = r.regency }) (cut_among place diary (promise_of r.view r.regency) there) in
-    let most : r.regency ≤ greatest_regency view.number (cut_at place diary) = promise_most view.number (cut_at place diary) (record { view = r.view; regency = r.regency }) of there in
+    let most : r.regency ≤ greatest_regency r.view (cut_at place diary) = promise_most r.view (cut_at place diary) (record { view = r.view; regency = r.regency }) refl there in
     omega (arith, most, past)
 
-reported_in_whole : (secret : List ℕ) (stated : List Statement) (view : View) (place : ℕ) (diary more : List LogEntry) (r : Report) → IsSoundBook secret stated view diary → (0 < place → HasMade diary place)
-    → Lawful 0 0 (diary ++ more) → greatest_regency view.number (cut_at place diary) < r.regency → HasReported digest_of (cut_at place diary ++ more) r → HasReported digest_of (diary ++ more) r
-reported_in_whole secret stated view place diary more r book has lawful past is =
-    ⊎_elim (λ front. absurd (none_before secret stated view place diary is.before r book past front)) (λ behind. reported_behind place diary more is.before r is.after has lawful is.reports behind)
+reported_in_whole : (place : ℕ) (diary more : List LogEntry) (r : Report) → (0 < place → HasMade diary place)
+    → Lawful 0 0 (diary ++ more) → greatest_regency r.view (cut_at place diary) < r.regency → HasReported digest_of (cut_at place diary ++ more) r → HasReported digest_of (diary ++ more) r
+reported_in_whole place diary more r has lawful past is =
+    ⊎_elim (λ front. absurd (none_before place diary is.before r past front)) (λ behind. reported_behind place diary more is.before r is.after has lawful is.reports behind)
     (first_or_second (cut_at place diary) more is.before (promise_of r.view r.regency) is.after is.split)
 
-pub shown_in_whole : (secret : List ℕ) (stated : List Statement) (view : View) (place : ℕ) (diary more : List LogEntry) (s : Statement) → IsSoundBook secret stated view diary → (0 < place → HasMade diary place)
-    → Lawful 0 0 (diary ++ more) → IsPast view.number (cut_at place diary) s → IsShown digest_of (cut_at place diary ++ more) s → IsShown digest_of (diary ++ more) s
-shown_in_whole secret stated view place diary more (says.Asked q) book has lawful past is = tt
-shown_in_whole secret stated view place diary more (says.Proposed p) book has lawful past is = tt
-shown_in_whole secret stated view place diary more (says.Voted b) book has lawful past is = voted_in_whole place diary more b.statement.kind b.statement.slot b.statement.digest is
-shown_in_whole secret stated view place diary more (says.Stopped s) book has lawful past is = tt
-shown_in_whole secret stated view place diary more (says.Reported r) book has lawful past is = reported_in_whole secret stated view place diary more r.statement book has lawful past is
-shown_in_whole secret stated view place diary more (says.Synced s) book has lawful past is = tt
-shown_in_whole secret stated view place diary more (says.Marked k) book has lawful past is = in_whole place diary more _ is
-shown_in_whole secret stated view place diary more (says.Replied a) book has lawful past is =
+pub shown_in_whole : (secret : List ℕ) (stated : List Statement) (views : List View) (place : ℕ) (diary more : List LogEntry) (s : Statement) → IsSoundBook secret stated views diary → (0 < place → HasMade diary place)
+    → Lawful 0 0 (diary ++ more) → IsPast (cut_at place diary) s → IsShown digest_of (cut_at place diary ++ more) s → IsShown digest_of (diary ++ more) s
+shown_in_whole secret stated views place diary more (says.Asked q) book has lawful past is = tt
+shown_in_whole secret stated views place diary more (says.Proposed p) book has lawful past is = tt
+shown_in_whole secret stated views place diary more (says.Voted b) book has lawful past is = voted_in_whole place diary more b.statement.kind b.statement.slot b.statement.digest is
+shown_in_whole secret stated views place diary more (says.Stopped s) book has lawful past is = tt
+shown_in_whole secret stated views place diary more (says.Reported r) book has lawful past is = reported_in_whole place diary more r.statement has lawful past is
+shown_in_whole secret stated views place diary more (says.Synced s) book has lawful past is = tt
+shown_in_whole secret stated views place diary more (says.Marked k) book has lawful past is = in_whole place diary more _ is
+shown_in_whole secret stated views place diary more (says.Replied a) book has lawful past is =
     subst (λ (k : ℕ). a.statement.place ≤ k) (last_in_whole place diary more book.lawful) is
-shown_in_whole secret stated view place diary more (says.Informed i) book has lawful past is =
+shown_in_whole secret stated views place diary more (says.Informed i) book has lawful past is =
     subst (λ (k : ℕ). i.statement.view.start ≤ k + 1) (last_in_whole place diary more book.lawful) is
 
 -- ---- a message that is held
@@ -113,18 +111,18 @@ front_of_written diary more j lawful =
     (subst (λ (es : List LogEntry). Lawful 0 0 es) (ap (λ (es : List LogEntry). diary ++ es) (sym (take-append-drop j more)) ∙ sym (append_assoc diary (take j more) (drop j more))) lawful)
 
 -- Each statement of a message that a node holds has been stated, or is the member's own. All that was written, up to the firm entries, shows the latter.
-pub shown_written : {S : Type 0} (stated : List Statement) (view : View) (n : Node S) (diary more : List LogEntry) (j : ℕ) (h : Held) → IsSound stated view n → IsSoundBook n.secret stated view diary
+pub shown_written : {S : Type 0} (stated : List Statement) (view : View) (n : Node S) (diary more : List LogEntry) (j : ℕ) (h : Held) → IsSound stated view n → IsSoundBook n.secret stated n.replica.views diary
     → n.entries ≡ cut_at n.opening diary ++ more → n.restored ≡ length (cut_at n.opening diary) → (0 < n.opening → HasMade diary n.opening) → (diary ≡ [] → ⊥)
     → Among h n.held → h.needs ≤ n.restored + j
     → Each (λ s. Among s stated ⊎ ((signer_of s ≡ Member n.id) × IsShown digest_of (diary ++ take j more) s)) (statements n.secret h.message)
 shown_written {S = S} stated view n diary more j h is book made count has some there low =
     each_both
     (λ s. Among s stated ⊎ ((signer_of s ≡ Member n.id) × IsShown digest_of (take h.needs n.entries) s))
-    (λ s. Among s stated ⊎ IsPast view.number (take n.restored n.entries) s)
+    (λ s. Among s stated ⊎ IsPast (take n.restored n.entries) s)
     (λ s. Among s stated ⊎ ((signer_of s ≡ Member n.id) × IsShown digest_of (diary ++ take j more) s))
     (λ s own late. by s own late) (statements n.secret h.message)
     (each_among (IsHeld n.secret n.id stated n.entries) n.held h is.held there).shown
-    (each_among (λ (x : Held). Each (λ s. Among s stated ⊎ IsPast view.number (take n.restored n.entries) s) (statements n.secret x.message)) n.held h is.late.each there)
+    (each_among (λ (x : Held). Each (λ s. Among s stated ⊎ IsPast (take n.restored n.entries) s) (statements n.secret x.message)) n.held h is.late.each there)
   where
     cut : List LogEntry
     cut = cut_at n.opening diary
@@ -138,12 +136,12 @@ shown_written {S = S} stated view n diary more j h is book made count has some t
     front : IsFront (take h.needs n.entries) (cut ++ take j more)
     front = waits_behind cut more n.entries h.needs j made (subst (λ (k : ℕ). h.needs ≤ k + j) count low)
 
-    by : (s : Statement) → Among s stated ⊎ ((signer_of s ≡ Member n.id) × IsShown digest_of (take h.needs n.entries) s) → Among s stated ⊎ IsPast view.number (take n.restored n.entries) s
+    by : (s : Statement) → Among s stated ⊎ ((signer_of s ≡ Member n.id) × IsShown digest_of (take h.needs n.entries) s) → Among s stated ⊎ IsPast (take n.restored n.entries) s
         → Among s stated ⊎ ((signer_of s ≡ Member n.id) × IsShown digest_of (diary ++ take j more) s)
     by s (inl old) late = inl old
     by s (inr own) (inl old) = inl old
     by s (inr own) (inr past) = inr (
       own.0,
-      shown_in_whole n.secret stated view n.opening diary (take j more) s book has lawful (subst (λ (es : List LogEntry). IsPast view.number es s) restored_is past)
+      shown_in_whole n.secret stated n.replica.views n.opening diary (take j more) s book has lawful (subst (λ (es : List LogEntry). IsPast es s) restored_is past)
           (IsShown-front digest_of (take h.needs n.entries) (cut ++ take j more) s front own.1),
     )

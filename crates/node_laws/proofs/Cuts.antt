@@ -1,12 +1,12 @@
 -- The cut of a sound book: what it promises and decides, and that a member may go on with it behind its checkpoint.
-use Rattle.std.proofs.Common.{Bool, List, None, Option, Some, ap, append-nil, append_assoc, arith, cond, drop, false, inl, inr, length, length-append, max, nat_lt, refl, subst, suc, sym, take, true, zero, ℕ, ◌≡◌, ◌⊎◌, ◌≤◌, ◌<◌, ◌∙◌, ◌+◌, ◌++◌, ◌∷◌, []}
+use Rattle.std.proofs.Common.{Bool, List, None, Option, Some, ap, append-nil, append_assoc, arith, cond, drop, false, inl, inr, length, length-append, max, nat_lt, refl, subst, suc, sym, take, true, zero, ℕ, ⊎_elim, ◌≡◌, ◌⊎◌, ◌≤◌, ◌<◌, ◌∙◌, ◌+◌, ◌++◌, ◌∷◌, []}
 use Rattle.std.proofs.lemmas.Bool.{le-ltb, ltb-false, ltb-true}
 use Rattle.std.proofs.lemmas.List.{length-take-le}
 use Rattle.std.proofs.Math.Seq.{take-add}
 use Rattle.std.specs.List.{cons_option}
 use Rattle.std.specs.Prelude.{map, slice_get}
 use Rattle.agreement_laws.specs.Statements.{Statement}
-use Rattle.agreement_laws.proofs.Lists.{each_among, each_from}
+use Rattle.agreement_laws.proofs.Lists.{among_either, each_among, each_from}
 use Rattle.smart_base.specs.Lists.{Each}
 use Rattle.smart_base.specs.Views.{View}
 use Rattle.smart_statements.specs.Batches.{Batch}
@@ -17,7 +17,6 @@ use Rattle.replica_rules.proofs.Places.{state_place}
 use Rattle.vote_book.proofs.Locks.{made_most}
 use Rattle.vote_book.specs.Books.{Among, HasMade, last_made, latest_made, place_made}
 use Rattle.vote_book.specs.Entries.{FitsEntry, entry_text}
-use Rattle.vote_book.specs.Tidy.{promise_of}
 use Rattle.vote_book.specs.declared.entry.Decision.{Decision}
 use Rattle.vote_book.specs.declared.entry.Opening.{Opening}
 use Rattle.vote_book.specs.declared.entry.Promise.{Promise}
@@ -31,57 +30,42 @@ use Rattle.book_laws.proofs.Kept.{kept, promise_kept}
 use Rattle.book_laws.proofs.Lists.{among_left, among_right, split_at}
 use Rattle.book_laws.proofs.Places.{begins, both_parts, latest_second}
 use Rattle.book_laws.proofs.Promises.{IsAtLeast, Under, greatest_from, greatest_most}
-use Rattle.node_rules.specs.Nodes.{greatest_regency, regency_in}
+use Rattle.node_rules.specs.Nodes.{greatest_regency}
 use Rattle.node_rules.specs.Reopening.{batch_past, damaged, decided_of, entries_in, is_opening, reopened, rests, stopped}
 use Rattle.node_rules.specs.Steps.{Outset}
 use Rattle.node_rules.specs.declared.node.OwnSnapshot.{OwnSnapshot}
-use Rattle.node_laws.proofs.Books.{promised_greatest}
+use Rattle.node_laws.proofs.Books.{fewer_promise, greatest_append, promise_most, promised_greatest}
+use Rattle.node_laws.proofs.Views.{numbered_has}
 use Rattle.node_laws.proofs.Damage.{back}
 use Rattle.node_laws.proofs.InTurn.{InTurn, TurnAt, all_in_turn, decided_in_turn}
-use Rattle.node_laws.proofs.Promised.{promise_in}
 use Rattle.node_laws.proofs.Reopened.{after_append, count_is, counted_past, in_turn, latest_is, reopened_is}
 use Rattle.node_laws.proofs.Restored.{decided_append, decided_here, decided_last, decided_low, decided_none, front_of}
 use Rattle.node_laws.proofs.Undamaged.{all_rest, read_again}
 use Rattle.node_laws.specs.Restored.{IsSoundBook}
 use Rattle.node_laws.specs.Restoring.{AreAlong, DecidesInTurn, outset_behind, resumed_node}
-use Rattle.node_laws.specs.Sound.{IsBegun, place_if}
+use Rattle.node_laws.specs.Sound.{ArePromisedUpTo, IsBegun, place_if}
 
 -- ---- what a sound book promises
 
--- entries whose promises are all of one view
-abbrev pub AreOfView : ℕ → List LogEntry → Type 0
-AreOfView view es = (p : Promise) → Among (Promised p) es → p.view ≡ view
-
-pub book_of_view : (secret : List ℕ) (stated : List Statement) (view : View) (entries : List LogEntry) → IsSoundBook secret stated view entries → AreOfView view.number entries
-book_of_view secret stated view entries book p there = let s = split_at entries (Promised p) there in (book.ranged s.before (Promised p) s.after s.is).of_view
+-- a book's promises are of known views
+pub book_upto : (secret : List ℕ) (stated : List Statement) (views : List View) (entries : List LogEntry) → IsSoundBook secret stated views entries
+    → (number : ℕ) → ((v : View) → Among v views → v.number ≤ number) → ArePromisedUpTo number entries
+book_upto secret stated views entries book number most p there =
+    let s = split_at entries (Promised p) there in
+    let known = (book.ranged s.before (Promised p) s.after s.is).within.of_view in
+    let has = numbered_has views p.view known.view known.is in
+    let low = most known.view has.there in
+    let same = has.number_is in
+    omega (arith, low, same)
 
 -- ---- the regency in force
 
-pub greatest_append : (view : ℕ) (xs ys : List LogEntry) → greatest_regency view (xs ++ ys) ≡ max (greatest_regency view xs) (greatest_regency view ys)
-greatest_append view [] ys = omega arith
-greatest_append view (x ∷ xs) ys = let rest = greatest_append view xs ys in omega (arith, rest)
-
-regency_most : (view : ℕ) (es : List LogEntry) (e : LogEntry) → Among e es → regency_in view e ≤ greatest_regency view es
-regency_most view [] e there = absurd there
-regency_most view (x ∷ xs) e (inl same) = let here : regency_in view e ≡ regency_in view x = ap (λ (y : LogEntry). regency_in view y) same in omega (arith, here)
-regency_most view (x ∷ xs) e (inr there) = let rest = regency_most view xs e there in omega (arith, rest)
-
-pub promise_most : (view : ℕ) (es : List LogEntry) (p : Promise) → p.view ≡ view → Among (Promised p) es → p.regency ≤ greatest_regency view es
-promise_most view es p at there =
-    let most = regency_most view es (Promised p) there in
-    let is_in : regency_in view (Promised p) ≡ p.regency = promise_in view p at in
-    omega (arith, most, is_in)
-
-pub fewer_promise : (view : ℕ) (xs ys : List LogEntry) → ((e : LogEntry) → Among e xs → Among e ys) → greatest_regency view xs ≤ greatest_regency view ys
-fewer_promise view xs ys all = by (greatest_regency view xs) refl
+under_low : (v r w s : ℕ) → (Under v r w s → ⊥) → w ≤ v
+under_low v r w s none = by (nat_lt v w) refl
   where
-    by : (r : ℕ) → greatest_regency view xs ≡ r → r ≤ greatest_regency view ys
-    by zero is = omega arith
-    by (suc r) is =
-        let some : 0 < greatest_regency view xs = omega (arith, is) in
-        let most : greatest_regency view xs ≤ greatest_regency view ys =
-        promise_most view ys (record { view = view; regency = greatest_regency view xs }) refl (all (promise_of view (greatest_regency view xs)) (promised_greatest view xs some)) in
-        omega (arith, most, is)
+    by : (t : Bool) → nat_lt v w ≡ t → w ≤ v
+    by true less = absurd (none (inl (ltb-true v w less)))
+    by false less = ltb-false v w less
 
 not_under : (v r w s : ℕ) → v ≡ w → (Under v r w s → ⊥) → s ≤ r
 not_under v r w s same none = by (nat_lt r s) refl
@@ -90,7 +74,8 @@ not_under v r w s same none = by (nat_lt r s) refl
     by true less = absurd (none (inr (same, ltb-true r s less)))
     by false less = ltb-false r s less
 
-pub kept_regency : (view : ℕ) (front : List LogEntry) → AreOfView view front → greatest_regency view (kept_of front) ≡ greatest_regency view front
+-- what is kept promises as much of the latest view and of those behind it
+pub kept_regency : (view : ℕ) (front : List LogEntry) → ArePromisedUpTo view front → greatest_regency view (kept_of front) ≡ greatest_regency view front
 kept_regency view front of =
     let fewer : greatest_regency view (kept_of front) ≤ greatest_regency view front = fewer_promise view (kept_of front) front (λ e there. (kept front e there).there) in
     let more : greatest_regency view front ≤ greatest_regency view (kept_of front) = by (greatest_regency view front) refl in
@@ -102,12 +87,14 @@ kept_regency view front of =
         let some : 0 < greatest_regency view front = omega (arith, is) in
         let least : IsAtLeast (greatest_promise front) view (greatest_regency view front) =
         greatest_most front (record { view = view; regency = greatest_regency view front }) (promised_greatest view front some) in
-        let at : least.promise.view ≡ view = of least.promise (greatest_from front least.promise least.is) in
+        let low : least.promise.view ≤ view = of least.promise (greatest_from front least.promise least.is) in
+        let up : view ≤ least.promise.view = under_low least.promise.view least.promise.regency view (greatest_regency view front) least.most in
+        let at : least.promise.view ≡ view = omega (arith, low, up) in
         let most : least.promise.regency ≤ greatest_regency view (kept_of front) = promise_most view (kept_of front) least.promise at (promise_kept front least.promise least.is) in
         let high : greatest_regency view front ≤ least.promise.regency = not_under least.promise.view least.promise.regency view (greatest_regency view front) at least.most in
         omega (arith, most, high, is)
 
-pub cut_regency : (place view : ℕ) (diary : List LogEntry) → AreOfView view diary → greatest_regency view (cut_at place diary) ≡ greatest_regency view diary
+pub cut_regency : (place view : ℕ) (diary : List LogEntry) → ArePromisedUpTo view diary → greatest_regency view (cut_at place diary) ≡ greatest_regency view diary
 cut_regency place view diary of = by (has_cut place diary)
   where
     front : List LogEntry
@@ -116,7 +103,7 @@ cut_regency place view diary of = by (has_cut place diary)
     behind : List LogEntry
     behind = from_place place diary
 
-    of_front : AreOfView view front
+    of_front : ArePromisedUpTo view front
     of_front p there = of p (subst (λ (es : List LogEntry). Among (Promised p) es) (both_parts place diary) (among_left (Promised p) front behind there))
 
     by : (t : Bool) → greatest_regency view (cond t (kept_of front ++ behind) diary) ≡ greatest_regency view diary
@@ -125,6 +112,31 @@ cut_regency place view diary of = by (has_cut place diary)
         ∙ (ap (λ (n : ℕ). max n (greatest_regency view behind)) (kept_regency view front of_front)
         ∙ (sym (greatest_append view front behind) ∙ ap (λ (es : List LogEntry). greatest_regency view es) (both_parts place diary)))
     by false = refl
+
+-- what a cut promises up to a view, all of it does
+pub cut_upto : (place view : ℕ) (diary : List LogEntry) → ArePromisedUpTo view (cut_at place diary) → ArePromisedUpTo view diary
+cut_upto place view diary = by (has_cut place diary)
+  where
+    front : List LogEntry
+    front = before_place place diary
+
+    behind : List LogEntry
+    behind = from_place place diary
+
+    of_kept : ArePromisedUpTo view (kept_of front ++ behind) → (p : Promise) → Among (Promised p) front → p.view ≤ view
+    of_kept upto p there =
+        let least : IsAtLeast (greatest_promise front) p.view p.regency = greatest_most front p there in
+        let up : p.view ≤ least.promise.view = under_low least.promise.view least.promise.regency p.view p.regency least.most in
+        let most : least.promise.view ≤ view = upto least.promise (among_left (Promised least.promise) (kept_of front) behind (promise_kept front least.promise least.is)) in
+        omega (arith, up, most)
+
+    parts : ArePromisedUpTo view (kept_of front ++ behind) → (p : Promise) → Among (Promised p) (front ++ behind) → p.view ≤ view
+    parts upto p there =
+        ⊎_elim (λ early. of_kept upto p early) (λ late. upto p (among_right (Promised p) (kept_of front) behind late)) (among_either (Promised p) front behind there)
+
+    by : (t : Bool) → ArePromisedUpTo view (cond t (kept_of front ++ behind) diary) → ArePromisedUpTo view diary
+    by true upto = λ p there. parts upto p (subst (λ (es : List LogEntry). Among (Promised p) es) (sym (both_parts place diary)) there)
+    by false upto = upto
 
 -- ---- a cut is not damaged
 
@@ -158,7 +170,7 @@ begun_cut place [] begun = inl (none_of_none (has_cut place []) place)
 begun_cut place (e ∷ es) (inl none) = absurd (cc)
 begun_cut place (e ∷ es) (inr begun) = inr (first_begun place e es begun)
 
-pub undamaged_cut : (secret : List ℕ) (stated : List Statement) (view : View) (place : ℕ) (entries : List LogEntry) → IsSoundBook secret stated view entries → InstallUpTo place entries
+pub undamaged_cut : (secret : List ℕ) (stated : List Statement) (view : View) (place : ℕ) (entries : List LogEntry) → IsSoundBook secret stated (view ∷ []) entries → InstallUpTo place entries
     → Each FitsEntry entries → damaged secret place view (map entry_text (cut_at place entries)) ≡ None
 undamaged_cut secret stated view place entries book upto fit =
     back secret place view (cut_at place entries) (cut_each FitsEntry place entries fit) (begun_cut place entries book.begun)
@@ -216,9 +228,9 @@ low_none past (Installed i ∷ es) low = low_none past es (omega (arith, low))
 low_none past (Marked k ∷ es) low = low_none past es (omega (arith, low))
 
 -- past its place a cut decides what the whole decides there
-pub cut_decides : (secret : List ℕ) (stated : List Statement) (view : View) (place : ℕ) (entries : List LogEntry) → IsSoundBook secret stated view entries
+pub cut_decides : (secret : List ℕ) (stated : List Statement) (views : List View) (place : ℕ) (entries : List LogEntry) → IsSoundBook secret stated views entries
     → decided_of place (cut_at place entries) ≡ decided_of place entries
-cut_decides secret stated view place entries book = by (has_cut place entries) refl
+cut_decides secret stated views place entries book = by (has_cut place entries) refl
   where
     front : List LogEntry
     front = before_place place entries
@@ -313,17 +325,17 @@ place_low (suc k) entries has = made_most entries (suc k) (has (omega arith))
 -- ---- what a cut decides along a list
 
 -- how many batches a cut decides past its place
-pub cut_counts : (secret : List ℕ) (stated : List Statement) (view : View) (place : ℕ) (entries : List LogEntry) → IsSoundBook secret stated view entries → (0 < place → HasMade entries place)
+pub cut_counts : (secret : List ℕ) (stated : List Statement) (views : List View) (place : ℕ) (entries : List LogEntry) → IsSoundBook secret stated views entries → (0 < place → HasMade entries place)
     → InstallUpTo place entries → last_made entries ≡ place + length (decided_of place (cut_at place entries))
-cut_counts secret stated view place entries book has upto =
+cut_counts secret stated views place entries book has upto =
     let cut : List LogEntry = cut_at place entries in
     let turn : InTurn place cut = all_in_turn place cut (cut_lawful place (length cut) entries book.lawful book.tidy upto) in
-    let latest : latest_made cut ≡ place_if (last_made entries) = cut_latest place entries ∙ latest_is secret stated view entries book in
+    let latest : latest_made cut ≡ place_if (last_made entries) = cut_latest place entries ∙ latest_is secret stated views entries book in
     counted_past place (last_made entries) (length (decided_of place cut)) (place_low place entries has) (subst (λ (o : Option ℕ). TurnAt place o (length (decided_of place cut))) latest turn)
 
-pub cut_slice : (secret : List ℕ) (stated : List Statement) (view : View) (place : ℕ) (batches : List Batch) (entries : List LogEntry) → IsSoundBook secret stated view entries → InstallUpTo place entries
+pub cut_slice : (secret : List ℕ) (stated : List Statement) (views : List View) (place : ℕ) (batches : List Batch) (entries : List LogEntry) → IsSoundBook secret stated views entries → InstallUpTo place entries
     → AreAlong batches entries → decided_of place (cut_at place entries) ≡ take (length (decided_of place (cut_at place entries))) (drop place batches)
-cut_slice secret stated view place batches entries book upto along =
+cut_slice secret stated views place batches entries book upto along =
     let cut : List LogEntry = cut_at place entries in
     decided_slice batches place cut (decided_in_turn place cut (cut_lawful place (length cut) entries book.lawful book.tidy upto)) (λ d there. along.decided d (cut_among place entries (Decided d) there))
 
@@ -352,41 +364,41 @@ behind_batches : {S : Type 0} (m : Meaning S) (view : View) (place count : ℕ) 
 behind_batches m view place count batches =
     after_append m (state m view []) (take place batches) (take count (drop place batches)) ∙ ap (λ (bs : List Batch). state m view bs) (sym (take-add place count batches))
 
-pub cut_state : {S : Type 0} (m : Meaning S) (secret : List ℕ) (stated : List Statement) (view : View) (place : ℕ) (batches : List Batch) (entries : List LogEntry) → IsSoundBook secret stated view entries
+pub cut_state : {S : Type 0} (m : Meaning S) (secret : List ℕ) (stated : List Statement) (view : View) (views : List View) (place : ℕ) (batches : List Batch) (entries : List LogEntry) → IsSoundBook secret stated views entries
     → (0 < place → HasMade entries place) → InstallUpTo place entries → AreAlong batches entries
     → after_batches m (state m view (take place batches)) (decided_of place (cut_at place entries)) ≡ state m view (take (last_made entries) batches)
-cut_state m secret stated view place batches entries book has upto along =
+cut_state m secret stated view views place batches entries book has upto along =
     let ds : List Batch = decided_of place (cut_at place entries) in
-    ap (λ (bs : List Batch). after_batches m (state m view (take place batches)) bs) (cut_slice secret stated view place batches entries book upto along)
-    ∙ (behind_batches m view place (length ds) batches ∙ ap (λ (k : ℕ). state m view (take k batches)) (sym (cut_counts secret stated view place entries book has upto)))
+    ap (λ (bs : List Batch). after_batches m (state m view (take place batches)) bs) (cut_slice secret stated views place batches entries book upto along)
+    ∙ (behind_batches m view place (length ds) batches ∙ ap (λ (k : ℕ). state m view (take k batches)) (sym (cut_counts secret stated views place entries book has upto)))
 
 pub some_begun : (x : LogEntry) (xs : List LogEntry) → (x ∷ xs ≡ []) ⊎ IsBegun (x ∷ xs) → IsBegun (x ∷ xs)
 some_begun x xs (inl none) = absurd (cc)
 some_begun x xs (inr is) = is
 
-pub cut_reopened : {S : Type 0} (m : Meaning S) (secret : List ℕ) (id : ℕ) (stated : List Statement) (view : View) (period place : ℕ) (batches : List Batch) (checkpoint : Option OwnSnapshot) (e : LogEntry)
-    (es : List LogEntry) → IsSoundBook secret stated view (e ∷ es) → (0 < place → HasMade (e ∷ es) place) → InstallUpTo place (e ∷ es) → AreAlong batches (e ∷ es)
+pub cut_reopened : {S : Type 0} (m : Meaning S) (secret : List ℕ) (id : ℕ) (stated : List Statement) (view : View) (views : List View) (period place : ℕ) (batches : List Batch) (checkpoint : Option OwnSnapshot) (e : LogEntry)
+    (es : List LogEntry) → IsSoundBook secret stated views (e ∷ es) → (0 < place → HasMade (e ∷ es) place) → InstallUpTo place (e ∷ es) → AreAlong batches (e ∷ es)
     → reopened m (outset_behind m secret id view period place batches checkpoint) (cut_at place (e ∷ es)) ≡ resumed_node m secret id view period place batches checkpoint (e ∷ es)
-cut_reopened {S = S} m secret id stated view period place batches checkpoint e es book has upto along =
+cut_reopened {S = S} m secret id stated view views period place batches checkpoint e es book has upto along =
     goes_by m (outset_behind m secret id view period place batches checkpoint) (cut_at place (e ∷ es)) place (state m view (take (last_made (e ∷ es)) batches))
-    (cut_of_begun place (e ∷ es) (some_begun e es book.begun)) (behind_place m view place batches (e ∷ es) has along) (cut_state m secret stated view place batches (e ∷ es) book has upto along)
+    (cut_of_begun place (e ∷ es) (some_begun e es book.begun)) (behind_place m view place batches (e ∷ es) has along) (cut_state m secret stated view views place batches (e ∷ es) book has upto along)
 
 -- ---- entries that install nothing decide their own list
 
-pub own_along : (secret : List ℕ) (stated : List Statement) (view : View) (entries : List LogEntry) → IsSoundBook secret stated view entries → InstallUpTo 0 entries → AreAlong (decided_of 0 entries) entries
-own_along secret stated view entries book none = record {
+pub own_along : (secret : List ℕ) (stated : List Statement) (views : List View) (entries : List LogEntry) → IsSoundBook secret stated views entries → InstallUpTo 0 entries → AreAlong (decided_of 0 entries) entries
+own_along secret stated views entries book none = record {
   decided = λ d there.
       let s = split_at entries (Decided d) there in
-      let at = in_turn secret stated view s.before d s.after (subst (λ (es : List LogEntry). IsSoundBook secret stated view es) s.is book) in
-      let front = front_of secret stated view s.before (Decided d ∷ s.after) (subst (λ (es : List LogEntry). IsSoundBook secret stated view es) s.is book) in
+      let at = in_turn secret stated views s.before d s.after (subst (λ (es : List LogEntry). IsSoundBook secret stated views es) s.is book) in
+      let front = front_of secret stated views s.before (Decided d ∷ s.after) (subst (λ (es : List LogEntry). IsSoundBook secret stated views es) s.is book) in
       let few : InstallUpTo 0 s.before = λ i here. none i (subst (λ (es : List LogEntry). Among (Installed i) es) (sym s.is) (among_left (Installed i) s.before (Decided d ∷ s.after) here)) in
-      let count = count_is secret stated view s.before front few in
+      let count = count_is secret stated views s.before front few in
       let place : d.slot.place ≡ suc (length (decided_of 0 s.before)) = omega (arith, at, count) in
       let parts : decided_of 0 entries ≡ decided_of 0 s.before ++ d.batch ∷ decided_of 0 s.after =
       ap (λ (es : List LogEntry). decided_of 0 es) s.is ∙ (decided_append 0 s.before (Decided d ∷ s.after) ∙ ap (λ (bs : List Batch). decided_of 0 s.before ++ bs) (decided_here 0 d s.after (omega (arith, place)))) in
       ap (λ (k : ℕ). batch_at (decided_of 0 entries) k) place
       ∙ (ap (λ (bs : List Batch). slice_get bs (length (decided_of 0 s.before))) parts ∙ seam (decided_of 0 s.before) d.batch (decided_of 0 s.after));
-  reached = (let count = count_is secret stated view entries book none in omega (arith, count));
+  reached = (let count = count_is secret stated views entries book none in omega (arith, count));
 }
   where
     seam : (xs : List Batch) (y : Batch) (ys : List Batch) → slice_get (xs ++ y ∷ ys) (length xs) ≡ Some y

@@ -14,9 +14,10 @@ use Rattle.node_rules.specs.Arrivals.{regency_by}
 use Rattle.node_rules.specs.Rules.{decide_batch, decides, deciding, decision_ahead, decision_in, decision_shown, first_votes, shown_next, slot_in}
 use Rattle.transfer_form.specs.declared.transfer.ProvenBatch.{ProvenBatch}
 use Rattle.smart_base.specs.Lists.{Each, or_else}
-use Rattle.smart_base.specs.Views.{View, is_view}
+use Rattle.smart_base.specs.Views.{View}
 use Rattle.smart_messages.specs.declared.message.Message.{Message}
 use Rattle.smart_messages.specs.declared.message.Message.TheVariants.{Propose}
+use Rattle.smart_messages.specs.declared.message.Message.TheVariants as changes
 use Rattle.smart_statements.specs.declared.statement.Slot.{Slot}
 use Rattle.vote_book.proofs.Last.{last_push, latest_push}
 use Rattle.vote_book.specs.BookReports.{accept_for}
@@ -26,12 +27,12 @@ use Rattle.vote_book.specs.declared.entry.Decision.{Decision}
 use Rattle.vote_book.specs.declared.entry.LogEntry.{LogEntry}
 use Rattle.vote_book.specs.declared.entry.LogEntry.TheVariants.{Accepted, Decided, Installed, Marked, Opened, Promised, Synced, Wrote}
 use Rattle.node_laws.proofs.Lists.{among_last, each_filter_map_in, found, guard}
-use Rattle.node_laws.proofs.Nodes.{Arrived, DecisionKept, Makes, MayPush, pushes}
+use Rattle.node_laws.proofs.Nodes.{Arrived, DecisionKept, Makes, MayPush, in_force_of, in_force_viewed, number_next, pushes}
 use Rattle.node_laws.proofs.Showing.{first_drawn, shown_asked, shown_stated}
 use Rattle.node_laws.proofs.Stated.{may_stand}
-use Rattle.node_laws.proofs.Votes.{in_force, made_last, made_latest, place_of_some}
-use Rattle.node_laws.proofs.Voting.{drawn_at, proposal_may}
-use Rattle.node_laws.specs.Sound.{HasBatch, IsBatchAt, IsSound, place_if}
+use Rattle.node_laws.proofs.Votes.{made_last, made_latest, place_of_some}
+use Rattle.node_laws.proofs.Voting.{drawn_now, proposal_may}
+use Rattle.node_laws.specs.Sound.{HasBatch, IsBatchAt, IsIn, IsShownIn, IsSound, IsStated, place_if}
 use Rattle.smart_statements.specs.declared.statement.VoteKind.TheVariants as kinds
 use Rattle.smart_base.proofs.SameLists.{and_true}
 use Rattle.agreement_laws.proofs.Lists.{each_among, each_append, else_some, some_equal}
@@ -95,12 +96,12 @@ named_accepted secret stated view place e x has is =
     subst (λ (y : Named). IsNamed secret stated place y) (sym named.2)
     (subst (λ (k : ℕ). IsBatchAt secret stated k a.digest a.batch) for_it.place_is there)
 
-pub all_known : {S : Type 0} (stated : List Statement) (view : View) (n : Node S) (number place regency : ℕ) → number ≡ view.number → IsSound stated view n
+pub all_known : {S : Type 0} (stated : List Statement) (view : View) (n : Node S) (number place regency : ℕ) → number ≡ (view_of n).number → IsSound stated view n
     → Each (IsNamed n.secret stated place) (known number place regency n.arrivals n.entries)
 all_known stated view n number place regency of is =
     each_append (IsNamed n.secret stated place) (filter_map (named_in number place regency) n.arrivals) (filter_map (named_by number place) n.entries)
     (each_filter_map_in (IsNamed n.secret stated place) (named_in number place regency) n.arrivals
-    (λ m x there at. named_proposed n.secret stated view number place regency m x of (each_among (Arrived n.secret stated view) n.arrivals m is.arrivals there) at))
+    (λ m x there at. named_proposed n.secret stated (view_of n) number place regency m x of (each_among (Arrived n.secret stated (view_of n)) n.arrivals m is.arrivals there) at))
     (each_filter_map_in (IsNamed n.secret stated place) (named_by number place) n.entries
     (λ e x there at. named_accepted n.secret stated number place e x (each_among (HasBatch n.secret stated) n.entries e is.batches there) at))
 
@@ -191,36 +192,39 @@ next_if k = place_of_some (k + 1) (omega arith)
 it_is : {S : Type 0} (n : Node S) (regency : ℕ) (x : Named) → Decision
 it_is n regency x = record { slot = slot_in n regency; batch = x.batch; accepts = certificate_votes n.arrivals (view_of n) kinds.Accept (slot_in n regency) x.digest }
 
-may_decide : {S : Type 0} (stated : List Statement) (view : View) (n : Node S) (regency : ℕ) (x : Named) → is_view view ≡ true → IsSound stated view n → is_none n.waiting ≡ true
+may_decide : {S : Type 0} (stated : List Statement) (view : View) (n : Node S) (regency : ℕ) (x : Named) → IsSound stated view n → is_none n.waiting ≡ true
     → IsNamed n.secret stated (next_place n) x → has_quorum n.arrivals (view_of n) kinds.Accept (slot_in n regency) x.digest ≡ true
-    → MayPush stated view n (Decided (it_is n regency x))
+    → MayPush stated n (Decided (it_is n regency x))
 unfolding it_is
-may_decide stated view n regency x viewed is free named enough =
+may_decide stated view n regency x is free named enough =
     let same : digest_of x.batch ≡ x.digest = (may_stand n.secret (next_place n) x.digest x.batch named.may).named in
     record {
       admits = subst (λ (o : Option ℕ). Follows n.opening o (next_place n)) (sym (made_latest stated view n is free)) (follows_next n.opening n.replica.place);
       tidy = tt;
-      within = record { of_view = ap (λ (v : View). v.number) (in_force stated view n is); place_is = omega arith };
-      backed = λ of. subst
-          (λ (d : List ℕ). IsDrawn n.secret view stated (accept_of (slot_of view (next_place n) regency) d) (certificate_votes n.arrivals (view_of n) kinds.Accept (slot_in n regency) x.digest))
-          (sym same) (drawn_at n.secret stated view (view_of n) n.arrivals kinds.Accept (next_place n) regency x.digest (in_force stated view n is) viewed is.arrivals enough);
+      within = record { of_view = number_next stated view n is; place_is = omega arith };
+      newest = tt;
+      backed = λ v there at. subst
+          (λ (d : List ℕ). IsDrawn n.secret v stated (accept_of (slot_of v (next_place n) regency) d) (certificate_votes n.arrivals (view_of n) kinds.Accept (slot_in n regency) x.digest))
+          (sym same) (drawn_now stated view n kinds.Accept regency x.digest is enough v there at);
       batch = subst (λ (d : List ℕ). IsBatchAt n.secret stated (next_place n) d x.batch) (sym same) named;
     }
 
 -- what others showed may be decided
-may_shown : {S : Type 0} (stated : List Statement) (view : View) (n : Node S) (x : ProvenBatch) → is_view view ≡ true → IsSound stated view n → is_none n.waiting ≡ true → x.place ≡ next_place n
-    → DecisionKept n.secret stated view x → MayPush stated view n (Decided (decision_shown n x))
-may_shown {S = S} stated view n x viewed is free place kept =
-    let same : view_of n ≡ view = in_force stated view n is in
-    let cert = kept.1.accepts in
-    let drawn = first_drawn n.secret stated view (accept_of (slot_of view x.place (regency_by x.accepts)) (digest_of x.batch)) x.accepts viewed cert (shown_stated n.secret stated x kept.0 cert.0.verified) in
+may_shown : {S : Type 0} (stated : List Statement) (view : View) (n : Node S) (x : ProvenBatch) → IsSound stated view n → is_none n.waiting ≡ true → x.place ≡ next_place n
+    → IsStated n.secret stated (changes.Decision x) → IsShownIn n.secret (view_of n) x → MayPush stated n (Decided (decision_shown n x))
+may_shown {S = S} stated view n x is free place was shown =
+    let cert = shown.accepts in
+    let drawn = first_drawn n.secret stated (view_of n) (accept_of (slot_of (view_of n) x.place (regency_by x.accepts)) (digest_of x.batch)) x.accepts (in_force_viewed stated view n is) cert
+    (shown_stated n.secret stated x was cert.0.verified) in
     record {
       admits = subst (λ (k : ℕ). Follows n.opening (latest_made n.entries) k) (sym place)
           (subst (λ (o : Option ℕ). Follows n.opening o (next_place n)) (sym (made_latest stated view n is free)) (follows_next n.opening n.replica.place));
       tidy = tt;
-      within = record { of_view = ap (λ (v : View). v.number) same; place_is = omega (arith, place) };
-      backed = λ of. subst (λ (v : View). IsDrawn n.secret view stated (accept_of (slot_of view x.place (regency_by x.accepts)) (digest_of x.batch)) (first_votes v x.accepts)) (sym same) drawn;
-      batch = record { may = kept.1.batch; asked = shown_asked n.secret stated view x kept.0 kept.1 };
+      within = record { of_view = subst (λ (k : ℕ). IsIn n.replica.views k (view_of n).number) (sym place) (number_next stated view n is); place_is = omega (arith, place) };
+      newest = tt;
+      backed = λ v there at. in_force_of stated view n is
+          (λ (u : View). IsDrawn n.secret u stated (accept_of (slot_of u x.place (regency_by x.accepts)) (digest_of x.batch)) (first_votes (view_of n) x.accepts)) v there at drawn;
+      batch = record { may = shown.batch; asked = shown_asked n.secret stated (view_of n) x was shown };
     }
 
 pub decides_makes : {S : Type 0} (stated : List Statement) (view : View) (n : Node S) (d : Decision) → IsSound stated view n → is_none n.waiting ≡ true → d.slot.place ≡ next_place n
@@ -234,41 +238,41 @@ decides_makes stated view n d is free at =
       waiting = record { decision = d; there = among_last (Decided d) n.entries; place_is = at; batch_is = refl };
     }
 
-decides_votes : {S : Type 0} (stated : List Statement) (view : View) (n : Node S) (d : Decision) → is_view view ≡ true → IsSound stated view n → is_none n.waiting ≡ true → FromVotes n d
+decides_votes : {S : Type 0} (stated : List Statement) (view : View) (n : Node S) (d : Decision) → IsSound stated view n → is_none n.waiting ≡ true → FromVotes n d
     → IsSound stated view (record n { entries = n.entries ++ Decided d ∷ []; waiting = Some d.batch })
 unfolding it_is
-decides_votes {S = S} stated view n d viewed is free due =
+decides_votes {S = S} stated view n d is free due =
     let r = due.regency in
     let x = due.decides.named in
     let it : Decision = it_is n r x in
     let named = each_among (IsNamed n.secret stated (next_place n)) (known (view_of n).number (next_place n) (regency_of n) n.arrivals n.entries) x
-    (all_known stated view n (view_of n).number (next_place n) (regency_of n) (ap (λ (v : View). v.number) (in_force stated view n is)) is) due.decides.there in
+    (all_known stated view n (view_of n).number (next_place n) (regency_of n) refl is) due.decides.there in
     let pushed : IsSound stated view (record n { entries = n.entries ++ Decided it ∷ []; waiting = Some it.batch }) =
-    pushes stated view n (Decided it) (Some it.batch) is (may_decide stated view n r x viewed is free named due.decides.accepted)
+    pushes stated view n (Decided it) (Some it.batch) is (may_decide stated view n r x is free named due.decides.accepted)
     (decides_makes stated view n it is free refl) in
     subst (λ (y : Decision). IsSound stated view (record n { entries = n.entries ++ Decided y ∷ []; waiting = Some y.batch })) (sym due.decides.decision_is) pushed
 
-decides_shown : {S : Type 0} (stated : List Statement) (view : View) (n : Node S) (d : Decision) → is_view view ≡ true → IsSound stated view n → is_none n.waiting ≡ true → FromShown n d
+decides_shown : {S : Type 0} (stated : List Statement) (view : View) (n : Node S) (d : Decision) → IsSound stated view n → is_none n.waiting ≡ true → FromShown n d
     → IsSound stated view (record n { entries = n.entries ++ Decided d ∷ []; waiting = Some d.batch })
-decides_shown {S = S} stated view n d viewed is free due =
+decides_shown {S = S} stated view n d is free due =
     let x = due.shown in
     let it : Decision = decision_shown n x in
-    let kept = each_among (DecisionKept n.secret stated view) n.decisions x is.decisions due.there in
+    let kept = each_among (DecisionKept n.secret stated (next_place n) (view_of n)) n.decisions x is.decisions due.there in
     let pushed : IsSound stated view (record n { entries = n.entries ++ Decided it ∷ []; waiting = Some it.batch }) =
-    pushes stated view n (Decided it) (Some it.batch) is (may_shown stated view n x viewed is free due.place_is kept) (decides_makes stated view n it is free due.place_is) in
+    pushes stated view n (Decided it) (Some it.batch) is (may_shown stated view n x is free due.place_is kept.0 (kept.2 due.place_is)) (decides_makes stated view n it is free due.place_is) in
     subst (λ (y : Decision). IsSound stated view (record n { entries = n.entries ++ Decided y ∷ []; waiting = Some y.batch })) (sym due.decision_is) pushed
 
-decides_it : {S : Type 0} (stated : List Statement) (view : View) (n : Node S) (d : Decision) → is_view view ≡ true → IsSound stated view n → IsDue n d
+decides_it : {S : Type 0} (stated : List Statement) (view : View) (n : Node S) (d : Decision) → IsSound stated view n → IsDue n d
     → IsSound stated view (record n { entries = n.entries ++ Decided d ∷ []; waiting = Some d.batch })
-decides_it stated view n d viewed is due =
-    ⊎_elim (λ (one : FromShown n d). decides_shown stated view n d viewed is due.free one) (λ (own : FromVotes n d). decides_votes stated view n d viewed is due.free own) due.how
+decides_it stated view n d is due =
+    ⊎_elim (λ (one : FromShown n d). decides_shown stated view n d is due.free one) (λ (own : FromVotes n d). decides_votes stated view n d is due.free own) due.how
 
-decides_with : {S : Type 0} (stated : List Statement) (view : View) (n : Node S) (o : Option Decision) → is_view view ≡ true → IsSound stated view n → deciding n ≡ o
+decides_with : {S : Type 0} (stated : List Statement) (view : View) (n : Node S) (o : Option Decision) → IsSound stated view n → deciding n ≡ o
     → IsSound stated view (decide_batch n o)
 unfolding decide_batch
-decides_with stated view n None viewed is at = is
-decides_with stated view n (Some d) viewed is at = decides_it stated view n d viewed is (due_is n d at)
+decides_with stated view n None is at = is
+decides_with stated view n (Some d) is at = decides_it stated view n d is (due_is n d at)
 
-pub sound_decides : {S : Type 0} (stated : List Statement) (view : View) (n : Node S) → is_view view ≡ true → IsSound stated view n → IsSound stated view (decides n)
+pub sound_decides : {S : Type 0} (stated : List Statement) (view : View) (n : Node S) → IsSound stated view n → IsSound stated view (decides n)
 unfolding decides
-sound_decides stated view n viewed is = decides_with stated view n (deciding n) viewed is refl
+sound_decides stated view n is = decides_with stated view n (deciding n) is refl

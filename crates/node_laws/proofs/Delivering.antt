@@ -25,7 +25,9 @@ use Rattle.smart_service.specs.declared.table.TableLine.{TableLine}
 use Rattle.vote_book.specs.Books.{last_made}
 use Rattle.vote_book.specs.declared.entry.LogEntry.{LogEntry}
 use Rattle.node_laws.proofs.Books.{all_within_more}
-use Rattle.node_laws.proofs.Nodes.{Late, Shows, holds}
+use Rattle.node_laws.proofs.Nodes.{DecisionKept, Late, Shows, holds}
+use Rattle.node_laws.proofs.Views.{are_more}
+use Rattle.smart_base.proofs.ViewFacts.{each-weaken}
 use Rattle.node_laws.specs.Sound.{AreAsked, IsSound, IsStated, answer_by, place_if}
 use Rattle.node_rules.specs.declared.node.Target.TheVariants as targets
 use Rattle.agreement_laws.specs.Statements as says
@@ -111,13 +113,13 @@ unfolding onward regency_of is_proven is_collect
 sound_onward stated view n batch service table pool is waits answered asked =
     let same : decided_place n ≡ n.replica.place + 1 = decided_where n.waiting batch n.replica.place waits in
     record {
-      views = is.views;
+      views = are_more view n.replica.place (n.replica.place + 1) n.replica.views (omega arith) is.views;
       begun = is.begun;
       lawful = is.lawful;
       tidy = is.tidy;
       last = is.last ∙ same;
       latest = is.latest ∙ ap place_if same;
-      within = all_within_more view (next_place n) (regency_of n) (n.replica.place + 1 + 1) (regency_of n) n.entries (omega arith) (omega arith) is.within;
+      within = all_within_more n.replica.views (next_place n) (n.replica.place + 1 + 1) n.entries n.entries n.entries (omega arith) (λ k. omega arith) is.within;
       ranged = is.ranged;
       backed = is.backed;
       batches = is.batches;
@@ -127,7 +129,8 @@ sound_onward stated view n batch service table pool is waits answered asked =
       stops = is.stops;
       reports = is.reports;
       syncs = is.syncs;
-      decisions = is.decisions;
+      decisions = each-weaken (DecisionKept n.secret stated (next_place n) (view_of n)) (DecisionKept n.secret stated (n.replica.place + 1 + 1) (view_of n))
+          (λ d kept. let low = kept.1 in (kept.0, omega (arith, low), λ at. absurd (omega (arith, low, at)))) n.decisions is.decisions;
       offers = is.offers;
       marked = is.marked;
       fetch = is.fetch;
@@ -144,7 +147,7 @@ sound_reply stated view n line is has =
     let says_it = says.Replied (signed answers n.secret n.id (answer_by line)) in
     holds stated view n (targets.Client line.client) (reply_of n.secret n.id line) is
     (each_filter (Shows stated n) (says.verifies n.secret) (says_it ∷ []) (inr (refl, has), tt))
-    (each_filter (Late stated view n) (says.verifies n.secret) (says_it ∷ []) (inr tt, tt))
+    (each_filter (Late stated n) (says.verifies n.secret) (says_it ∷ []) (inr tt, tt))
 
 sound_replying : {S : Type 0} (stated : List Statement) (view : View) (n : Node S) (lines : List Execution) → IsSound stated view n → Each (IsReached n.entries) lines
     → IsSound stated view (replying n lines)

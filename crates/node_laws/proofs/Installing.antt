@@ -5,21 +5,21 @@ use Rattle.std.specs.List.{filter_map, flat_map}
 use Rattle.std.specs.Prelude.{IfSome, map, option_map}
 use Rattle.replica_rules.specs.Pools.{settled}
 use Rattle.replica_rules.specs.Replicas.{is_next}
-use Rattle.replica_rules.specs.Seals.{digest_of, is_verified}
-use Rattle.agreement_laws.specs.Certificates.{IsBacked}
+use Rattle.replica_rules.specs.Seals.{is_verified}
+use Rattle.agreement_laws.specs.Certificates.{IsTaken}
 use Rattle.agreement_laws.specs.Statements.{Statement, statements}
 use Rattle.agreement_laws.specs.Statements as says
 use Rattle.agreement_laws.proofs.Lists.{each_among, each_end, each_from, either, some_equal}
 use Rattle.node_rules.specs.Arrivals.{is_collect, is_proven}
 use Rattle.node_rules.specs.Changes.{state_ask}
 use Rattle.node_rules.specs.Marks.{firm_at}
-use Rattle.node_rules.specs.Nodes.{Node, decided_place, greatest_regency, holding, holding_all, next_place, regency_of, signs, view_of}
+use Rattle.node_rules.specs.Nodes.{Node, decided_place, holding, holding_all, next_place, regency_of, signs, view_of}
 use Rattle.node_rules.specs.Transfers.{answers_state, decided_at, decides_at, follow_plan, gives_parts, install_by, install_fetch, install_replica, installing, installs, is_of_group, is_other_offer, is_ready, is_shown_place, last_few, made_of, mark_made, marks_past, offer_for, offered_marks, offers_state, part_messages, places_after, planning, plans, ready, same_view, shown_after, shown_as, shown_at, spoil}
 use Rattle.node_rules.specs.declared.node.OwnSnapshot.{OwnSnapshot}
 use Rattle.node_rules.specs.declared.node.Target.{Target}
 use Rattle.node_rules.specs.declared.node.Target.TheVariants as targets
 use Rattle.smart_base.specs.Lists.{Each, or_else}
-use Rattle.smart_base.specs.Views.{View, is_view}
+use Rattle.smart_base.specs.Views.{View}
 use Rattle.smart_base.proofs.SameLists.{and_true, same_list-equal}
 use Rattle.smart_base.proofs.ViewFacts.{each-weaken}
 use Rattle.smart_base.specs.declared.limits.TheConstants.{MARKS}
@@ -60,11 +60,13 @@ use Rattle.vote_book.specs.declared.entry.LogEntry.TheVariants.{Accepted, Decide
 use Rattle.node_laws.proofs.Books.{all_within_more, begun_push, held_push, late_push, ranged_push, within_push}
 use Rattle.node_laws.proofs.Delivering.{IsReached, replica_is}
 use Rattle.node_laws.proofs.Lists.{each_filter_map_in}
-use Rattle.node_laws.proofs.Nodes.{Late, OfferKept, PlanKept, Shows, holds, transfers}
+use Rattle.node_laws.proofs.Nodes.{DecisionKept, Late, OfferKept, PlanKept, Shows, holds, in_force_there, in_force_viewed, known_of, transfers}
 use Rattle.node_laws.proofs.Planning.{IsTakenFrom, all_each_mark, finished_from, plan_each, restored_low}
 use Rattle.node_laws.proofs.Stated.{batch_covers, covers, each_verified}
-use Rattle.node_laws.proofs.Votes.{free_place, in_force, made_last, place_of_some}
-use Rattle.node_laws.specs.Sound.{AreAsked, HasBatch, HasDecided, IsHeld, IsPlanned, IsSound, IsStated, IsWithin, place_if}
+use Rattle.node_laws.proofs.Views.{are_more, held_among, numbered_is}
+use Rattle.node_laws.proofs.Votes.{free_place, made_last, place_of_some}
+use Rattle.certificates.specs.Collects.{view_numbered}
+use Rattle.node_laws.specs.Sound.{AreAsked, HasBatch, HasDecided, IsBackedIn, IsHeld, IsKnown, IsPlanned, IsSound, IsStated, IsWithin, place_if}
 use Rattle.node_rules.proofs.Options.{none_is}
 use Rattle.regency_sync.proofs.Lists.{each_filter}
 
@@ -124,9 +126,9 @@ over n e service table place pool taken =
       taken = taken;
     }
 
-no_place : (secret : List ℕ) (view : View) (stated : List Statement) (planned_one : Option Fetch) (f : Fetch) → PlanKept secret stated view planned_one → planned_one ≡ Some f → IsPlanned secret view stated f.plan
-no_place secret view stated None f is at = absurd (cc)
-no_place secret view stated (Some x) f is at = subst (λ (y : Fetch). IsPlanned secret view stated y.plan) (some_equal x f at) is
+no_place : (secret : List ℕ) (views : List View) (stated : List Statement) (planned_one : Option Fetch) (f : Fetch) → PlanKept secret stated views planned_one → planned_one ≡ Some f → IsPlanned secret views stated f.plan
+no_place secret views stated None f is at = absurd (cc)
+no_place secret views stated (Some x) f is at = subst (λ (y : Fetch). IsPlanned secret views stated y.plan) (some_equal x f at) is
 
 -- each place that was made is before it
 above_made : (es : List LogEntry) (last place made : ℕ) → last_made es ≡ last → last < place → HasMade es made → made < place
@@ -137,7 +139,7 @@ no_batch None es place is = tt
 no_batch (Some b) es place is = absurd (cc)
 
 sound_over : {S : Type 0} (stated : List Statement) (view : View) (n : Node S) (i : Installation) (service : S) (table : List TableLine) (pool : List (SignedBy Request)) (taken : List OwnSnapshot)
-    → IsSound stated view n → n.waiting ≡ None → n.replica.place < i.place → i.view ≡ view.number → IsBacked n.secret digest_of view stated (Installed i)
+    → IsSound stated view n → n.waiting ≡ None → n.replica.place < i.place → IsKnown n.replica.views i.view → IsBackedIn n.secret n.replica.views stated (Installed i)
     → Each (λ line. line.place ≤ i.place) (kept_in table) → AreAsked n.secret stated pool → IsSound stated view (over n (Installed i) service table i.place pool taken)
 unfolding over regency_of is_proven is_collect
 sound_over {S = S} stated view n i service table pool taken is free later of backed low asked =
@@ -147,9 +149,9 @@ sound_over {S = S} stated view n i service table pool taken is free later of bac
     let here : decided_place (over n (Installed i) service table i.place pool taken) ≡ i.place = free_place n.waiting i.place none in
     let last : last_made es ≡ i.place = (let pushed = last_push n.entries (Installed i) in omega (arith, pushed, before, later)) in
     let some : 0 < i.place = omega (arith, later) in
-    let within : IsWithin view (i.place + 1) 0 (Installed i) = record { of_view = of; some = some } in
+    let within : IsWithin n.replica.views (i.place + 1) es (Installed i) = record { of_view = of; some = some } in
     record {
-      views = is.views;
+      views = are_more view n.replica.place i.place n.replica.views (omega (arith, later)) is.views;
       begun = begun_push n.entries (Installed i) is.begun;
       lawful = grows n.opening n.restored n.entries (Installed i) is.lawful (record {
         above = λ made has. above_made n.entries n.replica.place i.place made before later has;
@@ -158,11 +160,10 @@ sound_over {S = S} stated view n i service table pool taken is free later of bac
       tidy = grows_tidy n.entries (Installed i) is.tidy tt;
       last = last ∙ sym here;
       latest = latest_push n.entries (Installed i) ∙ (sym (place_of_some i.place some) ∙ ap place_if (sym here));
-      within = within_push view (view_of n).number (i.place + 1) n.entries (Installed i)
-          (all_within_more view (next_place n) (greatest_regency (view_of n).number n.entries) (i.place + 1) (greatest_regency (view_of n).number n.entries) n.entries (omega (arith, later)) (omega arith) is.within)
-          within;
-      ranged = ranged_push n.opening view n.entries (Installed i) is.ranged within;
-      backed = each_end (IsBacked n.secret digest_of view stated) n.entries (Installed i) is.backed backed;
+      within = within_push n.replica.views (i.place + 1) n.entries (Installed i)
+          (all_within_more n.replica.views (next_place n) (i.place + 1) n.entries n.entries n.entries (omega (arith, later)) (λ k. omega arith) is.within) within;
+      ranged = ranged_push n.opening n.replica.views n.entries (Installed i) is.ranged (record { within = record { of_view = of; some = some }; newest = tt });
+      backed = each_end (IsBackedIn n.secret n.replica.views stated) n.entries (Installed i) is.backed backed;
       batches = each_end (HasBatch n.secret stated) n.entries (Installed i) is.batches tt;
       waiting = no_batch n.waiting es (i.place + 1) free;
       table = each-weaken (λ (line : Execution). line.place ≤ i.place) (IsReached es) (λ line most. omega (arith, most, last)) (kept_in table) low;
@@ -170,26 +171,28 @@ sound_over {S = S} stated view n i service table pool taken is free later of bac
       stops = is.stops;
       reports = is.reports;
       syncs = is.syncs;
-      decisions = is.decisions;
+      decisions = each-weaken (DecisionKept n.secret stated (next_place n) (view_of n)) (DecisionKept n.secret stated (i.place + 1) (view_of n))
+          (λ d kept. let low = kept.1 in (kept.0, omega (arith, low, later), λ at. absurd (omega (arith, low, later, at)))) n.decisions is.decisions;
       offers = is.offers;
       marked = is.marked;
       fetch = tt;
       pool = asked;
       held = each-weaken (IsHeld n.secret n.id stated n.entries) (IsHeld n.secret n.id stated es) (λ h held. held_push n.secret n.id stated n.entries (Installed i) h held) n.held is.held;
-      late = late_push n.secret stated view.number n.restored n.entries (Installed i) n.held is.late;
+      late = late_push n.secret stated n.restored n.entries (Installed i) n.held is.late;
     }
 
 sound_replica : {S : Type 0} (m : Meaning S) (stated : List Statement) (view : View) (n : Node S) (f : Fetch) (r : Replica S) → IsSound stated view n → IsReady n f → IsTakenFrom m f r → r.views ≡ n.replica.views
     → IsSound stated view (install_replica n f r)
 unfolding install_replica over
 sound_replica {S = S} m stated view n f r is due from views =
-    let planned_is = no_place n.secret view stated n.fetch f is.fetch due.stands in
+    let planned_is = no_place n.secret n.replica.views stated n.fetch f is.fetch due.stands in
     let i : Installation = record { place = f.plan.place; digest = f.plan.digest; view = f.plan.view; marks = f.plan.marks } in
     let pool : List (SignedBy Request) = settled r.table n.pool in
     let taken : List OwnSnapshot = n.taken ++ record { place = f.plan.place; snapshot = _; needs = length (n.entries ++ Installed i ∷ []) } ∷ [] in
     let IsAsked : SignedBy Request → Type 0 = λ q. (is_verified requests n.secret q ≡ true) × IsStated n.secret stated (Ask q) in
     let there : IsSound stated view (over n (Installed i) r.service r.table f.plan.place pool taken) =
-    sound_over stated view n i r.service r.table pool taken is due.free due.later planned_is.of_view (λ of. record { holds = planned_is.certified; drawn = planned_is.drawn })
+    sound_over stated view n i r.service r.table pool taken is due.free due.later planned_is.of_view
+    (λ v there of. known_of stated view n is (λ (u : View). IsTaken n.secret u stated i) f.plan.view planned_is.of_view v there of (record { holds = planned_is.certified; drawn = planned_is.drawn }))
     (subst (λ (k : ℕ). Each (λ (line : Execution). line.place ≤ k) (kept_in r.table)) from.place_is (restored_low m _ r from.read))
     (each_filter IsAsked (λ q. is_next r.table q.statement) n.pool is.pool) in
     let next : Node S = record n { entries = n.entries ++ Installed i ∷ []; replica = r; pool = pool; fetch = None; taken = taken } in
@@ -243,7 +246,7 @@ offer_good secret stated o is = each_from (IsGood secret stated) o.marks (λ m t
 good_marks : {S : Type 0} (stated : List Statement) (view : View) (n : Node S) → IsSound stated view n → Each (IsGood n.secret stated) (all_marks n.offers n.marks)
 good_marks stated view n is =
     all_each_mark (IsGood n.secret stated) n.offers n.marks
-    (each-weaken _ (IsGood n.secret stated) (λ m kept. mark_good n.secret stated m kept.1 kept.0.tagged) n.marks is.marked)
+    (each-weaken _ (IsGood n.secret stated) (λ m kept. mark_good n.secret stated m kept.1 kept.0) n.marks is.marked)
     (each-weaken (OfferKept n.secret stated) (λ o. Each (IsGood n.secret stated) o.marks) (λ o kept. offer_good n.secret stated o kept) n.offers is.offers)
 
 made_is : (x : Result Plan NotYet) (p : Plan) → made_of x ≡ Some p → x ≡ Ok p
@@ -258,38 +261,37 @@ planning_is n p is = by (is_none n.fetch) is
     by true said = made_is (planned n.offers n.marks n.replica.place (view_of n)) p said
     by false said = absurd (cc)
 
-plan_is : {S : Type 0} (stated : List Statement) (view : View) (n : Node S) (p : Plan) → is_view view ≡ true → IsSound stated view n → planning n ≡ Some p → IsPlanned n.secret view stated p
-plan_is stated view n p viewed is at =
-    let same : view_of n ≡ view = in_force stated view n is in
-    let made = subst (λ (v : View). planned n.offers n.marks n.replica.place v ≡ Ok p) same (planning_is n p at) in
+plan_is : {S : Type 0} (stated : List Statement) (view : View) (n : Node S) (p : Plan) → IsSound stated view n → planning n ≡ Some p → IsPlanned n.secret n.replica.views stated p
+plan_is stated view n p is at =
+    let made = planning_is n p at in
     let good = good_marks stated view n is in
-    let each = plan_each (IsGood n.secret stated) n.offers n.marks n.replica.place view p good made in
+    let each = plan_each (IsGood n.secret stated) n.offers n.marks n.replica.place (view_of n) p good made in
     record {
-      of_view = each.0;
-      certified = rests_on_marks n.secret n.offers n.marks n.replica.place view p viewed
+      of_view = record { view = view_of n; is = ap (λ (k : ℕ). view_numbered n.replica.views k) each.0 ∙ numbered_is view n.replica.place n.replica.views is.views (view_of n) (in_force_there stated view n is) };
+      certified = rests_on_marks n.secret n.offers n.marks n.replica.place (view_of n) p (in_force_viewed stated view n is)
           (each-weaken (IsGood n.secret stated) (λ m. is_verified marks n.secret m ≡ true) (λ m is. is.0) (all_marks n.offers n.marks) good) made;
       drawn = each-weaken (IsGood n.secret stated) (λ m. Among (says.Marked m) stated) (λ m is. is.1) p.marks each.1;
     }
 
-plans_with : {S : Type 0} (stated : List Statement) (view : View) (n : Node S) (o : Option Plan) → is_view view ≡ true → IsSound stated view n → planning n ≡ o → IsSound stated view (follow_plan n o)
+plans_with : {S : Type 0} (stated : List Statement) (view : View) (n : Node S) (o : Option Plan) → IsSound stated view n → planning n ≡ o → IsSound stated view (follow_plan n o)
 unfolding follow_plan
-plans_with stated view n None viewed is at = is
-plans_with {S = S} stated view n (Some p) viewed is at =
+plans_with stated view n None is at = is
+plans_with {S = S} stated view n (Some p) is at =
     let next : Node S = record n { fetch = Some (record { plan = p; parts = [] }) } in
     holds stated view next (targets.Node p.seeder) (state_ask n p.place)
-    (transfers stated view n n.decisions n.offers n.marks (Some (record { plan = p; parts = [] })) n.behind is is.decisions is.offers is.marked (plan_is stated view n p viewed is at)) tt tt
+    (transfers stated view n n.decisions n.offers n.marks (Some (record { plan = p; parts = [] })) n.behind is is.decisions is.offers is.marked (plan_is stated view n p is at)) tt tt
 
-pub sound_plans : {S : Type 0} (stated : List Statement) (view : View) (n : Node S) → is_view view ≡ true → IsSound stated view n → IsSound stated view (plans n)
+pub sound_plans : {S : Type 0} (stated : List Statement) (view : View) (n : Node S) → IsSound stated view n → IsSound stated view (plans n)
 unfolding plans
-sound_plans stated view n viewed is = plans_with stated view n (planning n) viewed is refl
+sound_plans stated view n is = plans_with stated view n (planning n) is refl
 
 -- ---- answer
 
 -- a message that may be held: each statement in it has been stated, or is the member's own and shown, and none tells a restored promise
-abbrev MayHold : {S : Type 0} → List Statement → View → Node S → Message → Type 0
-MayHold stated view n m = Each (Shows stated n) (statements n.secret m) × Each (Late stated view n) (statements n.secret m)
+abbrev MayHold : {S : Type 0} → List Statement → Node S → Message → Type 0
+MayHold stated n m = Each (Shows stated n) (statements n.secret m) × Each (Late stated n) (statements n.secret m)
 
-holds_all : {S : Type 0} (stated : List Statement) (view : View) (n : Node S) (to : Target) (ms : List Message) → IsSound stated view n → Each (MayHold stated view n) ms → IsSound stated view (holding_all n to ms)
+holds_all : {S : Type 0} (stated : List Statement) (view : View) (n : Node S) (to : Target) (ms : List Message) → IsSound stated view n → Each (MayHold stated n) ms → IsSound stated view (holding_all n to ms)
 holds_all stated view n to [] is each = is
 holds_all stated view n to (m ∷ ms) is each = holds_all stated view (holding n to m) to ms (holds stated view n to m is each.0.0 each.0.1) each.1
 
@@ -322,20 +324,20 @@ offer_states Q [] all s there = absurd there
 offer_states Q (m ∷ ms) all s (inl same) = subst Q (sym same) all.0
 offer_states Q (m ∷ ms) all s (inr there) = offer_states Q ms all.1 s there
 
-offer_may : {S : Type 0} (stated : List Statement) (view : View) (n : Node S) (place : ℕ) → MayHold stated view n (changes.StateOffer (offer_for n place))
+offer_may : {S : Type 0} (stated : List Statement) (n : Node S) (place : ℕ) → MayHold stated n (changes.StateOffer (offer_for n place))
 unfolding offer_for
-offer_may stated view n place =
+offer_may stated n place =
     let ms : List (SignedBy Mark) = offered_marks n place in
     let parts : List Statement = flat_map says.within (map says.Marked ms ++ []) in (
       each_verified n.secret (Shows stated n) parts (λ s there ok. offer_states (Shows stated n) ms (own (last_few MARKS (marks_past place n.entries)) (marks_stand place n.entries)) s there),
-      each_verified n.secret (Late stated view n) parts (λ s there ok. offer_states (Late stated view n) ms (late (last_few MARKS (marks_past place n.entries))) s there),
+      each_verified n.secret (Late stated n) parts (λ s there ok. offer_states (Late stated n) ms (late (last_few MARKS (marks_past place n.entries))) s there),
     )
   where
     own : (ks : List Mark) → Each (λ (k : Mark). Among (Marked k) n.entries) ks → Each (λ m. Shows stated n (says.Marked m)) (map (λ (k : Mark). signs n marks k) ks)
     own [] all = tt
     own (k ∷ ks) all = (inr (refl, all.0), own ks all.1)
 
-    late : (ks : List Mark) → Each (λ m. Late stated view n (says.Marked m)) (map (λ (k : Mark). signs n marks k) ks)
+    late : (ks : List Mark) → Each (λ m. Late stated n (says.Marked m)) (map (λ (k : Mark). signs n marks k) ks)
     late [] = tt
     late (k ∷ ks) = (inr tt, late ks)
 
@@ -362,19 +364,20 @@ decided_there place (e ∷ es) d is = by (decides_at place e) refl is (λ later.
     by None at said rest = inr (rest said)
     by (Some x) at said rest = inl (sym (decides_at_is place e d (at ∙ said)))
 
-covered_may : {S : Type 0} (stated : List Statement) (view : View) (n : Node S) (m : Message) → ((s : Statement) → Among s (flat_map says.within (says.said m)) → says.verifies n.secret s ≡ true → Among s stated)
-    → MayHold stated view n m
-covered_may stated view n m all = (
+covered_may : {S : Type 0} (stated : List Statement) (n : Node S) (m : Message) → ((s : Statement) → Among s (flat_map says.within (says.said m)) → says.verifies n.secret s ≡ true → Among s stated)
+    → MayHold stated n m
+covered_may stated n m all = (
   each_verified n.secret (Shows stated n) (flat_map says.within (says.said m)) (λ s there ok. inl (all s there ok)),
-  each_verified n.secret (Late stated view n) (flat_map says.within (says.said m)) (λ s there ok. inl (all s there ok)),
+  each_verified n.secret (Late stated n) (flat_map says.within (says.said m)) (λ s there ok. inl (all s there ok)),
 )
 
-decision_may : {S : Type 0} (stated : List Statement) (view : View) (n : Node S) (d : Decision) → IsSound stated view n → Among (Decided d) n.entries → MayHold stated view n (changes.Decision (shown_as d))
+decision_may : {S : Type 0} (stated : List Statement) (view : View) (n : Node S) (d : Decision) → IsSound stated view n → Among (Decided d) n.entries → MayHold stated n (changes.Decision (shown_as d))
 decision_may stated view n d is there =
-    let of = (each_among (IsWithin view (next_place n) (regency_of n)) n.entries (Decided d) is.within there).of_view in
-    let drawn = (each_among (IsBacked n.secret digest_of view stated) n.entries (Decided d) is.backed there of).drawn in
+    let of = (each_among (IsWithin n.replica.views (next_place n) n.entries) n.entries (Decided d) is.within there).of_view in
+    let known = held_among n.replica.views d.slot.place of.view of.holds in
+    let drawn = (each_among (IsBackedIn n.secret n.replica.views stated) n.entries (Decided d) is.backed there of.view known (sym of.number_is)).drawn in
     let asked = (each_among (HasBatch n.secret stated) n.entries (Decided d) is.batches there).asked in
-    covered_may stated view n (changes.Decision (shown_as d)) (λ s here ok. votes d.accepts drawn asked s here ok)
+    covered_may stated n (changes.Decision (shown_as d)) (λ s here ok. votes d.accepts drawn asked s here ok)
   where
     votes : (bs : List _) → Each (λ b. Among (says.Voted b) stated) bs → AreAsked n.secret stated d.batch → (s : Statement) → Among s (flat_map says.within (map says.Voted bs ++ map says.Asked d.batch))
         → says.verifies n.secret s ≡ true → Among s stated
@@ -382,15 +385,15 @@ decision_may stated view n d is there =
     votes (b ∷ bs) all asked s (inl same) ok = subst (λ (x : Statement). Among x stated) (sym same) all.0
     votes (b ∷ bs) all asked s (inr there) ok = votes bs all.1 asked s there ok
 
-shown_may : {S : Type 0} (stated : List Statement) (view : View) (n : Node S) (k : ℕ) (m : Message) → IsSound stated view n → shown_at n k ≡ Some m → MayHold stated view n m
+shown_may : {S : Type 0} (stated : List Statement) (view : View) (n : Node S) (k : ℕ) (m : Message) → IsSound stated view n → shown_at n k ≡ Some m → MayHold stated n m
 shown_may {S = S} stated view n k m is at = by (is_shown_place n k) at
   where
-    decided : (o : Option Decision) → decided_at k n.entries ≡ o → option_map (λ (d : Decision). changes.Decision (shown_as d)) o ≡ Some m → MayHold stated view n m
+    decided : (o : Option Decision) → decided_at k n.entries ≡ o → option_map (λ (d : Decision). changes.Decision (shown_as d)) o ≡ Some m → MayHold stated n m
     decided None none said = absurd (cc)
     decided (Some d) one said =
-        subst (λ (x : Message). MayHold stated view n x) (some_equal (changes.Decision (shown_as d)) m said) (decision_may stated view n d is (decided_there k n.entries d one))
+        subst (λ (x : Message). MayHold stated n x) (some_equal (changes.Decision (shown_as d)) m said) (decision_may stated view n d is (decided_there k n.entries d one))
 
-    by : (t : Bool) → cond t (option_map (λ (d : Decision). changes.Decision (shown_as d)) (decided_at k n.entries)) None ≡ Some m → MayHold stated view n m
+    by : (t : Bool) → cond t (option_map (λ (d : Decision). changes.Decision (shown_as d)) (decided_at k n.entries)) None ≡ Some m → MayHold stated n m
     by true said = decided (decided_at k n.entries) refl said
     by false said = absurd (cc)
 
@@ -398,19 +401,19 @@ sound_offers : {S : Type 0} (stated : List Statement) (view : View) (n : Node S)
 unfolding offers_state shown_after
 sound_offers stated view n a is =
     holds_all stated view n (targets.Node a.member) (changes.StateOffer (offer_for n a.place) ∷ filter_map (shown_at n) (places_after a.place 8)) is
-    (offer_may stated view n a.place, each_filter_map_in (MayHold stated view n) (shown_at n) (places_after a.place 8) (λ k m there at. shown_may stated view n k m is at))
+    (offer_may stated n a.place, each_filter_map_in (MayHold stated n) (shown_at n) (places_after a.place 8) (λ k m there at. shown_may stated view n k m is at))
 
-parts_may : {S : Type 0} (stated : List Statement) (view : View) (n : Node S) (ps : List StatePart) → Each (MayHold stated view n) (map (λ (p : StatePart). changes.StatePart p) ps)
-parts_may stated view n [] = tt
-parts_may stated view n (p ∷ ps) = ((tt, tt), parts_may stated view n ps)
+parts_may : {S : Type 0} (stated : List Statement) (n : Node S) (ps : List StatePart) → Each (MayHold stated n) (map (λ (p : StatePart). changes.StatePart p) ps)
+parts_may stated n [] = tt
+parts_may stated n (p ∷ ps) = ((tt, tt), parts_may stated n ps)
 
-part_messages_may : {S : Type 0} (stated : List Statement) (view : View) (n : Node S) (o : Option OwnSnapshot) → Each (MayHold stated view n) (part_messages o)
-part_messages_may stated view n None = tt
-part_messages_may stated view n (Some s) = parts_may stated view n (seeds s.place s.snapshot)
+part_messages_may : {S : Type 0} (stated : List Statement) (n : Node S) (o : Option OwnSnapshot) → Each (MayHold stated n) (part_messages o)
+part_messages_may stated n None = tt
+part_messages_may stated n (Some s) = parts_may stated n (seeds s.place s.snapshot)
 
 sound_parts : {S : Type 0} (stated : List Statement) (view : View) (n : Node S) (a : StateAsk) → IsSound stated view n → IsSound stated view (gives_parts n a)
 unfolding gives_parts
-sound_parts stated view n a is = holds_all stated view n (targets.Node a.member) (part_messages (firm_at n a.fetch)) is (part_messages_may stated view n (firm_at n a.fetch))
+sound_parts stated view n a is = holds_all stated view n (targets.Node a.member) (part_messages (firm_at n a.fetch)) is (part_messages_may stated n (firm_at n a.fetch))
 
 pub sound_answers_state : {S : Type 0} (stated : List Statement) (view : View) (n : Node S) (a : StateAsk) → IsSound stated view n → IsSound stated view (answers_state n a)
 unfolding answers_state

@@ -39,7 +39,7 @@ sound_asks {S = S} stated view n is =
     let marked : IsSound stated view m = aside stated view n n.firm n.held n.proposed true n.sync_made n.impatient n.behind is is.held is.late in
     let says_it = says.Stopped (signed stops n.secret n.id (record { view = (view_of n).number; regency = regency_of n + 1 })) in
     holds stated view m targets.View (stop_for n) marked (each_filter (Shows stated m) (says.verifies n.secret) (says_it ∷ []) (inr (refl, tt), tt))
-    (each_filter (Late stated view m) (says.verifies n.secret) (says_it ∷ []) (inr tt, tt))
+    (each_filter (Late stated m) (says.verifies n.secret) (says_it ∷ []) (inr tt, tt))
 
 pub sound_joins : {S : Type 0} (stated : List Statement) (view : View) (n : Node S) → IsSound stated view n → IsSound stated view (joins n)
 unfolding joins
@@ -58,7 +58,7 @@ collected stated view n number regency member r is at =
     let first = head_of (find (is_report number regency member) n.reports) r at in
     let x : Reported = first.0 in
     let there = (found (is_report number regency member) n.reports x first.1).there in
-    let kept = each_among (ReportKept n stated view) n.reports x is.reports there in
+    let kept = each_among (ReportKept n stated) n.reports x is.reports there in
     let all = covers n.secret stated (changes.StopData x) kept.1 in
     subst (λ (y : SignedBy Report). Covers n.secret stated (says.in_report y)) first.2
     (λ s here ok. all s (among_left s (says.in_report x.head) (flat_map says.within (says.requests_of x.batch)) here) ok)
@@ -83,10 +83,10 @@ sync_shown stated n sync own all s (inl same) ok = subst (λ (x : Statement). Sh
 sync_shown stated n sync own all s (inr there) ok =
     ⊎_elim (λ inside. inl (all s inside ok)) (λ none. absurd none) (among_either s (flat_map says.in_report sync.statement.collect) [] there)
 
-sync_late : {S : Type 0} (stated : List Statement) (view : View) (n : Node S) (sync : SignedBy Sync) → Covers n.secret stated (flat_map says.in_report sync.statement.collect)
-    → (s : Statement) → Among s (flat_map says.within (says.said (changes.Sync sync))) → says.verifies n.secret s ≡ true → Late stated view n s
-sync_late stated view n sync all s (inl same) ok = subst (λ (x : Statement). Late stated view n x) (sym same) (inr tt)
-sync_late stated view n sync all s (inr there) ok =
+sync_late : {S : Type 0} (stated : List Statement) (n : Node S) (sync : SignedBy Sync) → Covers n.secret stated (flat_map says.in_report sync.statement.collect)
+    → (s : Statement) → Among s (flat_map says.within (says.said (changes.Sync sync))) → says.verifies n.secret s ≡ true → Late stated n s
+sync_late stated n sync all s (inl same) ok = subst (λ (x : Statement). Late stated n x) (sym same) (inr tt)
+sync_late stated n sync all s (inr there) ok =
     ⊎_elim (λ inside. inl (all s inside ok)) (λ none. absurd none) (among_either s (flat_map says.in_report sync.statement.collect) [] there)
 
 leads_with : {S : Type 0} (stated : List Statement) (view : View) (n : Node S) (o : Option (List (SignedBy Report))) → IsSound stated view n → leading n ≡ o → IsSound stated view (lead_with n o)
@@ -99,7 +99,7 @@ leads_with {S = S} stated view n (Some items) is at =
     holds stated view m targets.View (changes.Sync sync) marked
     (each_verified n.secret (Shows stated m) (flat_map says.within (says.said (changes.Sync sync)))
     (sync_shown stated m sync refl (collect_covers stated view n items is at)))
-    (each_verified n.secret (Late stated view m) (flat_map says.within (says.said (changes.Sync sync))) (sync_late stated view m sync (collect_covers stated view n items is at)))
+    (each_verified n.secret (Late stated m) (flat_map says.within (says.said (changes.Sync sync))) (sync_late stated m sync (collect_covers stated view n items is at)))
 
 pub sound_leads : {S : Type 0} (stated : List Statement) (view : View) (n : Node S) → IsSound stated view n → IsSound stated view (leads n)
 unfolding leads
@@ -113,7 +113,7 @@ sound_passes_on stated view n [] is asked = is
 sound_passes_on stated view n (q ∷ qs) is asked =
     holds stated view n (targets.Node (leader (view_of n) (regency_of n))) (Ask q) is
     (each-weaken (λ s. Among s stated) (Shows stated n) (λ s there. inl there) (statements n.secret (Ask q)) asked.0.1)
-    (each-weaken (λ s. Among s stated) (Late stated view n) (λ s there. inl there) (statements n.secret (Ask q)) asked.0.1)
+    (each-weaken (λ s. Among s stated) (Late stated n) (λ s there. inl there) (statements n.secret (Ask q)) asked.0.1)
 
 sound_presses : {S : Type 0} (stated : List Statement) (view : View) (n : Node S) → IsSound stated view n → IsSound stated view (presses n)
 unfolding presses

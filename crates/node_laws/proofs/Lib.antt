@@ -1,4 +1,5 @@
 pub mod Lists
+pub mod Views
 pub mod Books
 pub mod Nodes
 pub mod Votes
@@ -25,6 +26,7 @@ pub mod Resting
 pub mod InTurn
 pub mod CertifiedBooks
 pub mod Damage
+pub mod OneView
 pub mod Undamaged
 pub mod Cuts
 pub mod CutNodes

@@ -51,18 +51,18 @@ with_taken stated view n taken is = record {
 }
 
 -- a mark of the place that is delivered may be pushed
-may_mark : {S : Type 0} (m : Meaning S) (stated : List Statement) (view : View) (n : Node S) → MayPush stated view n (Marked (mark_of m n))
-may_mark m stated view n = record { admits = tt; tidy = tt; within = omega arith; backed = tt; batch = tt }
+may_mark : {S : Type 0} (m : Meaning S) (stated : List Statement) (n : Node S) → MayPush stated n (Marked (mark_of m n))
+may_mark m stated n = record { admits = tt; tidy = tt; within = omega arith; newest = tt; backed = λ v there. tt; batch = tt }
 
 pub sound_mark : {S : Type 0} (m : Meaning S) (stated : List Statement) (view : View) (n : Node S) → IsSound stated view n → IsSound stated view (mark_place m n)
 unfolding mark_place
 sound_mark {S = S} m stated view n is =
     let e : LogEntry = Marked (mark_of m n) in
     let own : SignedBy Mark = signed marks n.secret n.id (mark_of m n) in
-    let pushed : IsSound stated view (recording n e) = records stated view n e is (may_mark m stated view n) refl in
+    let pushed : IsSound stated view (recording n e) = records stated view n e is (may_mark m stated n) refl in
     let sent : Node S = holding (recording n e) targets.View (changes.Mark own) in
     let held : IsSound stated view sent =
     holds stated view (recording n e) targets.View (changes.Mark own) pushed
     (each_filter (Shows stated (recording n e)) (says.verifies n.secret) (says.Marked own ∷ []) (inr (refl, among_last e n.entries), tt))
-    (each_filter (Late stated view (recording n e)) (says.verifies n.secret) (says.Marked own ∷ []) (inr tt, tt)) in
+    (each_filter (Late stated (recording n e)) (says.verifies n.secret) (says.Marked own ∷ []) (inr tt, tt)) in
     with_taken stated view sent _ held

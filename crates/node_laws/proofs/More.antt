@@ -4,7 +4,7 @@ use Rattle.replica_rules.specs.Seals.{digest_of, is_verified}
 use Rattle.agreement_laws.specs.Certificates.{IsBacked, IsChosen, IsDrawn, IsTaken}
 use Rattle.agreement_laws.specs.Diaries.{IsShown}
 use Rattle.agreement_laws.specs.Statements.{Statement, signer_of, statements}
-use Rattle.node_rules.specs.Nodes.{Node}
+use Rattle.node_rules.specs.Nodes.{Node, next_place, view_of}
 use Rattle.node_rules.specs.declared.node.Held.{Held}
 use Rattle.smart_base.specs.Lists.{Each}
 use Rattle.smart_base.specs.Views.{View}
@@ -21,7 +21,7 @@ use Rattle.vote_book.specs.declared.entry.LogEntry.TheVariants.{Accepted, Decide
 use Rattle.vote_book.specs.declared.entry.Start.{Start}
 use Rattle.state_transfer.specs.declared.fetch.Fetch.{Fetch}
 use Rattle.node_laws.proofs.Nodes.{Arrived, DecisionKept, MarkKept, OfferKept, PlanKept, ReportKept, StopKept, SyncKept}
-use Rattle.node_laws.specs.Sound.{AreAmong, AreAsked, HasBatch, IsBatchAt, IsHeld, IsPast, IsSound, IsStated}
+use Rattle.node_laws.specs.Sound.{AreAmong, AreAsked, HasBatch, IsBackedIn, IsBatchAt, IsHeld, IsPast, IsSound, IsStated}
 use Rattle.smart_messages.specs.declared.message.Message.TheVariants as changes
 use Rattle.agreement_laws.specs.Statements as says
 use Rattle.agreement_laws.proofs.Lists.{each_among}
@@ -64,6 +64,9 @@ module _ (stated more : List Statement) (grows_to : AreAmong stated more) where
   backed_more secret view (Installed i) is = λ of. taken_more secret view i (is of)
   backed_more secret view (Marked m) is = tt
 
+  pub backed_in_more : (secret : List ℕ) (views : List View) (e : LogEntry) → IsBackedIn secret views stated e → IsBackedIn secret views more e
+  backed_in_more secret views e is = λ v there. backed_more secret v e (is v there)
+
   asked_more : (secret : List ℕ) (batch : Batch) → AreAsked secret stated batch → AreAsked secret more batch
   asked_more secret batch asked =
       each-weaken (λ q. (is_verified requests secret q ≡ true) × IsStated secret stated (Ask q)) (λ q. (is_verified requests secret q ≡ true) × IsStated secret more (Ask q))
@@ -89,9 +92,9 @@ module _ (stated more : List Statement) (grows_to : AreAmong stated more) where
         (λ s is. ⊎_elim (λ there. inl (among_more s there)) (λ own. inr own) is) (statements secret h.message) is.shown;
   }
 
-  plan_more : (secret : List ℕ) (view : View) (planned : Option Fetch) → PlanKept secret stated view planned → PlanKept secret more view planned
-  plan_more secret view None is = tt
-  plan_more secret view (Some f) is = record {
+  plan_more : (secret : List ℕ) (views : List View) (planned : Option Fetch) → PlanKept secret stated views planned → PlanKept secret more views planned
+  plan_more secret views None is = tt
+  plan_more secret views (Some f) is = record {
     of_view = is.of_view;
     certified = is.certified;
     drawn = each-weaken (λ m. Among (says.Marked m) stated) (λ m. Among (says.Marked m) more) (λ m there. among_more (says.Marked m) there) f.plan.marks is.drawn;
@@ -107,25 +110,26 @@ module _ (stated more : List Statement) (grows_to : AreAmong stated more) where
     latest = is.latest;
     within = is.within;
     ranged = is.ranged;
-    backed = each-weaken (IsBacked n.secret digest_of view stated) (IsBacked n.secret digest_of view more) (backed_more n.secret view) n.entries is.backed;
+    backed = each-weaken (IsBackedIn n.secret n.replica.views stated) (IsBackedIn n.secret n.replica.views more) (backed_in_more n.secret n.replica.views) n.entries is.backed;
     batches = each-weaken (HasBatch n.secret stated) (HasBatch n.secret more) (has_more n.secret) n.entries is.batches;
     waiting = is.waiting;
     table = is.table;
-    arrivals = each-weaken (Arrived n.secret stated view) (Arrived n.secret more view) (λ m k. (k.0, areamong_more (statements n.secret m) k.1)) n.arrivals is.arrivals;
-    stops = each-weaken (StopKept n.secret stated view) (StopKept n.secret more view) (λ s k. (k.0, areamong_more (statements n.secret (changes.Stop s)) k.1)) n.stops is.stops;
-    reports = each-weaken (ReportKept n stated view) (ReportKept n more view) (λ r k. (k.0, areamong_more (statements n.secret (changes.StopData r)) k.1)) n.reports is.reports;
-    syncs = each-weaken (SyncKept n stated view) (SyncKept n more view) (λ s k. (k.0, areamong_more (statements n.secret (changes.Sync s)) k.1)) n.syncs is.syncs;
-    decisions = each-weaken (DecisionKept n.secret stated view) (DecisionKept n.secret more view) (λ d k. (areamong_more (statements n.secret (changes.Decision d)) k.0, k.1)) n.decisions is.decisions;
+    arrivals = each-weaken (Arrived n.secret stated (view_of n)) (Arrived n.secret more (view_of n)) (λ m k. (k.0, areamong_more (statements n.secret m) k.1)) n.arrivals is.arrivals;
+    stops = each-weaken (StopKept n.secret stated (view_of n)) (StopKept n.secret more (view_of n)) (λ s k. (k.0, areamong_more (statements n.secret (changes.Stop s)) k.1)) n.stops is.stops;
+    reports = each-weaken (ReportKept n stated) (ReportKept n more) (λ r k. (k.0, areamong_more (statements n.secret (changes.StopData r)) k.1)) n.reports is.reports;
+    syncs = each-weaken (SyncKept n stated) (SyncKept n more) (λ s k. (k.0, areamong_more (statements n.secret (changes.Sync s)) k.1)) n.syncs is.syncs;
+    decisions = each-weaken (DecisionKept n.secret stated (next_place n) (view_of n)) (DecisionKept n.secret more (next_place n) (view_of n))
+        (λ d k. (areamong_more (statements n.secret (changes.Decision d)) k.0, k.1, k.2)) n.decisions is.decisions;
     offers = each-weaken (OfferKept n.secret stated) (OfferKept n.secret more) (λ o k. (areamong_more (statements n.secret (changes.StateOffer o)) k.0, k.1)) n.offers is.offers;
-    marked = each-weaken (MarkKept n.secret stated view) (MarkKept n.secret more view) (λ k kept. (kept.0, areamong_more (statements n.secret (changes.Mark k)) kept.1)) n.marks is.marked;
-    fetch = plan_more n.secret view n.fetch is.fetch;
+    marked = each-weaken (MarkKept n.secret stated) (MarkKept n.secret more) (λ k kept. (kept.0, areamong_more (statements n.secret (changes.Mark k)) kept.1)) n.marks is.marked;
+    fetch = plan_more n.secret n.replica.views n.fetch is.fetch;
     pool = asked_more n.secret n.pool is.pool;
     held = each-weaken (IsHeld n.secret n.id stated n.entries) (IsHeld n.secret n.id more n.entries) (held_more n.secret n.id n.entries) n.held is.held;
     late = record {
       few = is.late.few;
-      each = each-weaken (λ (h : Held). Each (λ s. Among s stated ⊎ IsPast view.number (take n.restored n.entries) s) (statements n.secret h.message))
-          (λ (h : Held). Each (λ s. Among s more ⊎ IsPast view.number (take n.restored n.entries) s) (statements n.secret h.message))
-          (λ h late. each-weaken (λ s. Among s stated ⊎ IsPast view.number (take n.restored n.entries) s) (λ s. Among s more ⊎ IsPast view.number (take n.restored n.entries) s)
+      each = each-weaken (λ (h : Held). Each (λ s. Among s stated ⊎ IsPast (take n.restored n.entries) s) (statements n.secret h.message))
+          (λ (h : Held). Each (λ s. Among s more ⊎ IsPast (take n.restored n.entries) s) (statements n.secret h.message))
+          (λ h late. each-weaken (λ s. Among s stated ⊎ IsPast (take n.restored n.entries) s) (λ s. Among s more ⊎ IsPast (take n.restored n.entries) s)
           (λ s is. ⊎_elim (λ there. inl (among_more s there)) (λ past. inr past) is) (statements n.secret h.message) late) n.held is.late.each;
     };
   }

@@ -34,20 +34,20 @@ use Rattle.node_laws.specs.Sound.{IsHeld, IsSound, IsStated, IsStatedEvent}
 use Rattle.agreement_laws.proofs.Lists.{either}
 use Rattle.node_rules.proofs.Rulewise.{KeptByRules, ForRead, ForEvent, by_mark, takes_in_as, keeps_from}
 
-sound_rules : {S : Type 0} (stated : List Statement) (view : View) → is_view view ≡ true → KeptByRules {S = S} (λ n. IsSound stated view n)
-sound_rules stated view viewed = record {
+sound_rules : {S : Type 0} (stated : List Statement) (view : View) → KeptByRules {S = S} (λ n. IsSound stated view n)
+sound_rules stated view = record {
   by_adopts = λ n is. sound_adopts stated view n is;
   by_joins = λ n is. sound_joins stated view n is;
   by_promises = λ n is. sound_promises stated view n is;
   by_leads = λ n is. sound_leads stated view n is;
   by_proposes = λ n is. sound_proposes stated view n is;
   by_writes = λ n is. sound_writes stated view n is;
-  by_accepts = λ n is. sound_accepts stated view n viewed is;
-  by_decides = λ n is. sound_decides stated view n viewed is;
+  by_accepts = λ n is. sound_accepts stated view n is;
+  by_decides = λ n is. sound_decides stated view n is;
   by_times = λ n is. sound_times stated view n is;
   by_answers = λ n asked is. sound_answers_again stated view n asked is;
   by_states = λ n a is. sound_answers_state stated view n a is;
-  by_plans = λ n is. sound_plans stated view n viewed is;
+  by_plans = λ n is. sound_plans stated view n is;
 }
 
 pub sound_takes_in : {S : Type 0} (stated : List Statement) (view : View) (n : Node S) (event : NodeEvent) → IsSound stated view n
@@ -67,14 +67,14 @@ sound_takes_in {S} stated view n event is was =
     stated_event Deliver was = tt
     stated_event (Firm count) was = tt
 
-pub sound_step : {S : Type 0} (m : Meaning S) (stated : List Statement) (view : View) (n : Node S) (event : NodeEvent) → is_view view ≡ true → IsSound stated view n
+pub sound_step : {S : Type 0} (m : Meaning S) (stated : List Statement) (view : View) (n : Node S) (event : NodeEvent) → IsSound stated view n
     → IsStatedEvent n.secret stated event → IsSound stated view (step_of m n event).node
-sound_step {S = S} m stated view n event viewed is was =
+sound_step {S = S} m stated view n event is was =
     let taken : IsSound stated view (takes_in n event).node = sound_takes_in stated view n event is was in
     let t : Node S = installs m (takes_in n event).node in
     let installed : IsSound stated view t = sound_installs m stated view (takes_in n event).node taken in
     let delivered : IsSound stated view (delivers m t) = sound_delivers m stated view t installed in
-    keeps_from m (λ (x : Node S). IsSound stated view x) n event (sound_rules stated view viewed) taken installed
+    keeps_from m (λ (x : Node S). IsSound stated view x) n event (sound_rules stated view) taken installed
     (by_mark m (λ (x : Node S). IsSound stated view x) (is_some t.waiting) (delivers m t) delivered (λ due. sound_mark m stated view (delivers m t) delivered))
 
 -- ---- messages that leave, and the beginning
@@ -87,21 +87,21 @@ pub sound_released : {S : Type 0} (stated : List Statement) (view : View) (n : N
 sound_released stated view n is =
     aside stated view n n.firm (staying n.firm n.held) n.proposed n.stop_made n.sync_made n.impatient n.behind is
     (each_staying (IsHeld n.secret n.id stated n.entries) n.firm n.held is.held)
-    (record { few = is.late.few; each = each_staying (λ (h : Held). Each (Late stated view n) (statements n.secret h.message)) n.firm n.held is.late.each })
+    (record { few = is.late.few; each = each_staying (λ (h : Held). Each (Late stated n) (statements n.secret h.message)) n.firm n.held is.late.each })
 
 -- the node whose book is its opening alone
-pub sound_begun : {S : Type 0} (m : Meaning S) (stated : List Statement) (secret : List ℕ) (id : ℕ) (view : View) (period : ℕ) (o : Opening)
+pub sound_begun : {S : Type 0} (m : Meaning S) (stated : List Statement) (secret : List ℕ) (id : ℕ) (view : View) (period : ℕ) (o : Opening) → is_view view ≡ true
     → IsSound stated view (recording (stopped (outset m secret id view period)) (Opened o))
-sound_begun m stated secret id view period o = record {
-  views = refl;
+sound_begun m stated secret id view period o viewed = record {
+  views = record { rest = []; begins = refl; follows = refl; valid = (viewed, tt) };
   begun = refl;
   lawful = grows 0 0 [] (Opened o) (none_lawful 0 0) tt;
   tidy = grows_tidy [] (Opened o) none_tidy tt;
   last = omega arith;
   latest = refl;
   within = (tt, tt);
-  ranged = ranged_push 0 view [] (Opened o) (none_ranged 0 view) tt;
-  backed = (tt, tt);
+  ranged = ranged_push 0 (view ∷ []) [] (Opened o) (none_ranged 0 (view ∷ [])) (record { within = tt; newest = tt });
+  backed = (λ v there. tt, tt);
   batches = (tt, tt);
   waiting = tt;
   table = tt;
@@ -118,7 +118,7 @@ sound_begun m stated secret id view period o = record {
   late = record { few = omega arith; each = tt };
 }
 
-pub sound_opened : {S : Type 0} (m : Meaning S) (secret : List ℕ) (id : ℕ) (view : View) (period : ℕ) → IsSound [] view (opened (outset m secret id view period))
-sound_opened m secret id view period =
+pub sound_opened : {S : Type 0} (m : Meaning S) (secret : List ℕ) (id : ℕ) (view : View) (period : ℕ) → is_view view ≡ true → IsSound [] view (opened (outset m secret id view period))
+sound_opened m secret id view period viewed =
     let o : Opening = record { member = id; period = period; view = view } in
-    aside [] view (recording (stopped (outset m secret id view period)) (Opened o)) 0 [] [] false false false false (sound_begun m [] secret id view period o) tt (record { few = omega arith; each = tt })
+    aside [] view (recording (stopped (outset m secret id view period)) (Opened o)) 0 [] [] false false false false (sound_begun m [] secret id view period o viewed) tt (record { few = omega arith; each = tt })

@@ -83,7 +83,7 @@ brought_covers stated view n digest batch is at =
     let p : Reported → Bool = bears (view_of n) (synchronizer_of n) digest in
     let of = in_batch (find p n.reports) batch at in
     let r : Reported = of.0 in
-    let kept = each_among (ReportKept n stated view) n.reports r is.reports (found p n.reports r of.1).there in
+    let kept = each_among (ReportKept n stated) n.reports r is.reports (found p n.reports r of.1).there in
     reported_covers n.secret stated r r.batch batch refl of.2 (covers n.secret stated (changes.StopData r) kept.1)
 
 under_of : (o : Option Named) (batch : Batch) → option_map (λ (x : Named). x.batch) o ≡ Some batch → (x : Named) × (o ≡ Some x) × (x.batch ≡ batch)
@@ -127,10 +127,10 @@ proposal_shown : {S : Type 0} (stated : List Statement) (n : Node S) (p : Propos
 proposal_shown stated n p own all s (inl same) ok = subst (λ (x : Statement). Shows stated n x) (sym same) (inr (ap (λ (k : ℕ). Member k) own, tt))
 proposal_shown stated n p own all s (inr there) ok = inl (all s there ok)
 
-proposal_late : {S : Type 0} (stated : List Statement) (view : View) (n : Node S) (p : Proposed) → BatchCovers n.secret stated p.batch
-    → (s : Statement) → Among s (flat_map says.within (says.said (Propose p))) → says.verifies n.secret s ≡ true → Late stated view n s
-proposal_late stated view n p all s (inl same) ok = subst (λ (x : Statement). Late stated view n x) (sym same) (inr tt)
-proposal_late stated view n p all s (inr there) ok = inl (all s there ok)
+proposal_late : {S : Type 0} (stated : List Statement) (n : Node S) (p : Proposed) → BatchCovers n.secret stated p.batch
+    → (s : Statement) → Among s (flat_map says.within (says.said (Propose p))) → says.verifies n.secret s ≡ true → Late stated n s
+proposal_late stated n p all s (inl same) ok = subst (λ (x : Statement). Late stated n x) (sym same) (inr tt)
+proposal_late stated n p all s (inr there) ok = inl (all s there ok)
 
 proposes_with : {S : Type 0} (stated : List Statement) (view : View) (n : Node S) (o : Option Batch) → IsSound stated view n → proposing n ≡ o → IsSound stated view (propose_batch n o)
 unfolding propose_batch
@@ -142,7 +142,7 @@ proposes_with {S = S} stated view n (Some batch) is at =
     holds stated view m targets.View (Propose p) marked
     (each_verified n.secret (Shows stated m) (flat_map says.within (says.said (Propose p)))
     (proposal_shown stated m p refl (proposing_covers stated view n batch is at)))
-    (each_verified n.secret (Late stated view m) (flat_map says.within (says.said (Propose p))) (proposal_late stated view m p (proposing_covers stated view n batch is at)))
+    (each_verified n.secret (Late stated m) (flat_map says.within (says.said (Propose p))) (proposal_late stated m p (proposing_covers stated view n batch is at)))
 
 pub sound_proposes : {S : Type 0} (stated : List Statement) (view : View) (n : Node S) → IsSound stated view n → IsSound stated view (proposes n)
 unfolding proposes

@@ -67,25 +67,25 @@ next_of (suc k) place follows some = omega (arith, follows)
 -- ---- the places that a sound book makes
 
 -- each place that is made is past 0
-made_some : (secret : List ℕ) (stated : List Statement) (view : View) (entries : List LogEntry) (e : LogEntry) (k : ℕ) → IsSoundBook secret stated view entries → Among e entries → place_made e ≡ Some k → 0 < k
-made_some secret stated view entries (Decided d) k book there made =
+made_some : (secret : List ℕ) (stated : List Statement) (views : List View) (entries : List LogEntry) (e : LogEntry) (k : ℕ) → IsSoundBook secret stated views entries → Among e entries → place_made e ≡ Some k → 0 < k
+made_some secret stated views entries (Decided d) k book there made =
     let has = each_among (HasBatch secret stated) entries (Decided d) book.batches there in
     let same : d.slot.place ≡ k = cc in
     subst (λ (p : ℕ). 0 < p) same (some_place secret d.slot.place (digest_of d.batch) d.batch has.may)
-made_some secret stated view entries (Installed i) k book there made =
+made_some secret stated views entries (Installed i) k book there made =
     let s = split_at entries (Installed i) there in
     let same : i.place ≡ k = cc in
-    subst (λ (p : ℕ). 0 < p) same (book.ranged s.before (Installed i) s.after s.is).some
-made_some secret stated view entries (Opened o) k book there made = absurd (cc)
-made_some secret stated view entries (Wrote w) k book there made = absurd (cc)
-made_some secret stated view entries (Accepted a) k book there made = absurd (cc)
-made_some secret stated view entries (Promised p) k book there made = absurd (cc)
-made_some secret stated view entries (Synced s) k book there made = absurd (cc)
-made_some secret stated view entries (Marked m) k book there made = absurd (cc)
+    subst (λ (p : ℕ). 0 < p) same (book.ranged s.before (Installed i) s.after s.is).within.some
+made_some secret stated views entries (Opened o) k book there made = absurd (cc)
+made_some secret stated views entries (Wrote w) k book there made = absurd (cc)
+made_some secret stated views entries (Accepted a) k book there made = absurd (cc)
+made_some secret stated views entries (Promised p) k book there made = absurd (cc)
+made_some secret stated views entries (Synced s) k book there made = absurd (cc)
+made_some secret stated views entries (Marked m) k book there made = absurd (cc)
 
 -- the latest place that is made is the last
-pub latest_is : (secret : List ℕ) (stated : List Statement) (view : View) (entries : List LogEntry) → IsSoundBook secret stated view entries → latest_made entries ≡ place_if (last_made entries)
-latest_is secret stated view entries book = by (latest_made entries) refl
+pub latest_is : (secret : List ℕ) (stated : List Statement) (views : List View) (entries : List LogEntry) → IsSoundBook secret stated views entries → latest_made entries ≡ place_if (last_made entries)
+latest_is secret stated views entries book = by (latest_made entries) refl
   where
     by : (o : Option ℕ) → latest_made entries ≡ o → o ≡ place_if (last_made entries)
     by None is = ap place_if (sym (none_zero entries is))
@@ -93,19 +93,19 @@ latest_is secret stated view entries book = by (latest_made entries) refl
         let has = latest_has entries n is in
         let most : last_made entries ≤ n = rising entries book.lawful n is in
         let least : n ≤ last_made entries = made_most entries n has in
-        let some : 0 < n = made_some secret stated view entries has.entry n book has.there has.made in
+        let some : 0 < n = made_some secret stated views entries has.entry n book has.there has.made in
         let same : n ≡ last_made entries = omega (arith, most, least) in
         ap (λ (k : ℕ). Some k) same ∙ sym (place_of_some (last_made entries) (omega (arith, some, same)))
 
 -- places are decided one after the other, each behind the last that is made
-pub in_turn : (secret : List ℕ) (stated : List Statement) (view : View) (before : List LogEntry) (d : Decision) (after : List LogEntry)
-    → IsSoundBook secret stated view (before ++ Decided d ∷ after) → d.slot.place ≡ last_made before + 1
-in_turn secret stated view before d after book =
-    let front : IsSoundBook secret stated view before = front_of secret stated view before (Decided d ∷ after) book in
+pub in_turn : (secret : List ℕ) (stated : List Statement) (views : List View) (before : List LogEntry) (d : Decision) (after : List LogEntry)
+    → IsSoundBook secret stated views (before ++ Decided d ∷ after) → d.slot.place ≡ last_made before + 1
+in_turn secret stated views before d after book =
+    let front : IsSoundBook secret stated views before = front_of secret stated views before (Decided d ∷ after) book in
     let admits : Follows 0 (latest_made before) d.slot.place = book.lawful before (Decided d) after refl in
     let has : HasBatch secret stated (Decided d) =
     each_among (HasBatch secret stated) (before ++ Decided d ∷ after) (Decided d) book.batches (among_right (Decided d) before (Decided d ∷ after) (inl refl)) in
-    next_of (last_made before) d.slot.place (subst (λ (o : Option ℕ). Follows 0 o d.slot.place) (latest_is secret stated view before front) admits)
+    next_of (last_made before) d.slot.place (subst (λ (o : Option ℕ). Follows 0 o d.slot.place) (latest_is secret stated views before front) admits)
     (some_place secret d.slot.place (digest_of d.batch) d.batch has.may)
 
 -- ---- all of them
@@ -151,12 +151,12 @@ counted_past past (suc k) count low turn =
     ⊎_elim (λ (few : (suc k ≤ past) × (count ≡ 0)). let least = few.0 in let none = few.1 in omega (arith, low, least, none)) (λ (at : suc k ≡ past + count). at) turn
 
 -- as many places are made as decisions stand there
-pub count_is : (secret : List ℕ) (stated : List Statement) (view : View) (entries : List LogEntry) → IsSoundBook secret stated view entries → InstallUpTo 0 entries
+pub count_is : (secret : List ℕ) (stated : List Statement) (views : List View) (entries : List LogEntry) → IsSoundBook secret stated views entries → InstallUpTo 0 entries
     → last_made entries ≡ length (decided_of 0 entries)
-count_is secret stated view entries book none =
+count_is secret stated views entries book none =
     let turn : InTurn 0 entries = all_in_turn 0 entries (cut_lawful 0 (length entries) entries book.lawful book.tidy none) in
     let counted = counted_past 0 (last_made entries) (length (decided_of 0 entries)) (omega arith)
-    (subst (λ (o : Option ℕ). TurnAt 0 o (length (decided_of 0 entries))) (latest_is secret stated view entries book) turn) in
+    (subst (λ (o : Option ℕ). TurnAt 0 o (length (decided_of 0 entries))) (latest_is secret stated views entries book) turn) in
     omega (arith, counted)
 
 pub reopened_place : {S : Type 0} (m : Meaning S) (secret : List ℕ) (id : ℕ) (view : View) (period : ℕ) (entries : List LogEntry)
@@ -167,6 +167,6 @@ reopened_place {S = S} m secret id view period (e ∷ es) =
     ap (λ (n : Node S). n.replica.place) (reopened_is m (outset m secret id view period) e es) ∙ state_place m view (decided_of 0 (e ∷ es))
 
 -- the place of the node that goes on is the last that its entries make
-pub place_reopened : {S : Type 0} (m : Meaning S) (secret : List ℕ) (id : ℕ) (stated : List Statement) (view : View) (period : ℕ) (entries : List LogEntry)
-    → IsSoundBook secret stated view entries → InstallUpTo 0 entries → (reopened m (outset m secret id view period) entries).replica.place ≡ last_made entries
-place_reopened m secret id stated view period entries book none = reopened_place m secret id view period entries ∙ sym (count_is secret stated view entries book none)
+pub place_reopened : {S : Type 0} (m : Meaning S) (secret : List ℕ) (id : ℕ) (stated : List Statement) (view : View) (period : ℕ) (views : List View) (entries : List LogEntry)
+    → IsSoundBook secret stated views entries → InstallUpTo 0 entries → (reopened m (outset m secret id view period) entries).replica.place ≡ last_made entries
+place_reopened m secret id stated view period views entries book none = reopened_place m secret id view period entries ∙ sym (count_is secret stated views entries book none)

@@ -116,11 +116,11 @@ may_stand secret place digest batch is =
 pub proposal_asked : (secret : List ℕ) (stated : List Statement) (view : View) (p : Proposed) → Arrived secret stated view (Propose p) → p.head.statement.slot.view ≡ view.number
     → AreAsked secret stated p.batch
 proposal_asked secret stated view p is of =
-    let may = may_stand secret p.head.statement.slot.place p.head.statement.digest p.batch (is.0 of).batch in
+    let may = may_stand secret p.head.statement.slot.place p.head.statement.digest p.batch (is.0.1 of).batch in
     batch_asked secret stated (says.Proposed p.head ∷ []) p.batch (covers secret stated (Propose p) is.1) may.tags
 
 -- ---- votes
 
 pub vote_stated : (secret : List ℕ) (stated : List Statement) (view : View) (b : SignedBy Ballot) → Arrived secret stated view (Vote b) → b.statement.slot.view ≡ view.number
     → Among (says.Voted b) stated
-vote_stated secret stated view b is of = covers secret stated (Vote b) is.1 (says.Voted b) (inl refl) (is.0 of).tagged
+vote_stated secret stated view b is of = covers secret stated (Vote b) is.1 (says.Voted b) (inl refl) (is.0.1 of).tagged

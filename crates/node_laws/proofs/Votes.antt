@@ -1,13 +1,12 @@
 -- A vote that is opened may stand in the book, and is tidy there.
-use Rattle.std.proofs.Common.{Bool, List, None, Option, Some, ap, arith, cond, false, inl, inr, max, nat_lt, refl, subst, suc, sym, true, zero, ℕ, ◌≡◌, ◌+◌, ◌<◌, ◌&&◌, ◌∙◌, ◌==◌, ◌-◌, ◌≤◌}
+use Rattle.std.proofs.Common.{Bool, List, None, Option, Some, ap, arith, cond, false, inl, inr, nat_lt, refl, subst, suc, sym, true, zero, ℕ, ◌≡◌, ◌+◌, ◌<◌, ◌&&◌, ◌∙◌, ◌==◌, ◌-◌, ◌≤◌, ◌++◌, ◌∷◌, []}
 use Rattle.std.proofs.lemmas.Bool.{eq-eqb, eqb-true, leb-true, ltb-true}
 use Rattle.std.specs.List.{list_any}
 use Rattle.std.specs.Prelude.{is_none, is_some, ◌^◌}
 use Rattle.agreement_laws.specs.Statements.{Statement}
-use Rattle.node_rules.specs.Nodes.{Node, bound_at, view_start, has_begun, is_free, is_open, is_within, next_place, open_slot, regency_of, start_at, start_of, view_of}
+use Rattle.node_rules.specs.Nodes.{Node, greatest_regency, bound_at, view_start, has_begun, is_free, is_open, is_within, next_place, open_slot, regency_of, start_at, start_of, view_of}
 use Rattle.node_rules.specs.Steps.{opened}
-use Rattle.smart_base.specs.Lists.{Each}
-use Rattle.smart_base.specs.Views.{View, is_member, present}
+use Rattle.smart_base.specs.Views.{View, is_member}
 use Rattle.smart_statements.specs.Equality.{same_slot}
 use Rattle.smart_statements.specs.declared.statement.Slot.{Slot}
 use Rattle.vote_book.specs.Standing.{first_start}
@@ -21,17 +20,13 @@ use Rattle.vote_book.specs.declared.entry.LogEntry.TheVariants.{Accepted, Promis
 use Rattle.vote_book.specs.declared.entry.Promise.{Promise}
 use Rattle.vote_book.specs.declared.entry.Start.{Start}
 use Rattle.vote_book.specs.declared.entry.Write.{Write}
-use Rattle.node_laws.proofs.Books.{begins, promised_greatest}
+use Rattle.node_laws.proofs.Books.{begins, promise_most, promised_greatest, promised_push}
 use Rattle.node_laws.proofs.Lists.{none_of}
-use Rattle.node_laws.specs.Sound.{IsSound, IsUpTo, IsWithin, place_if}
+use Rattle.node_laws.proofs.Nodes.{number_newest, number_next}
+use Rattle.node_laws.specs.Sound.{ArePromisedUpTo, IsSound, IsUpTo, place_if}
 use Rattle.smart_base.proofs.SameLists.{and_true}
-use Rattle.agreement_laws.proofs.Lists.{each_among}
 
 -- ---- where a node stands
-
--- the view in force is the one that it began with
-pub in_force : {S : Type 0} (stated : List Statement) (view : View) (n : Node S) → IsSound stated view n → view_of n ≡ view
-in_force stated view n is = ap present is.views
 
 pub free_place : {A : Type 0} (waiting : Option A) (place : ℕ) → is_none waiting ≡ true → cond (is_some waiting) (place + 1) place ≡ place
 free_place None place is = refl
@@ -96,26 +91,22 @@ in_turn es place latest later =
     let same : place ≡ place + 1 - 1 = omega arith in
     subst (λ (k : ℕ). HasMade es k) same (latest_has es place (latest ∙ place_of_some place (omega (arith, later))))
 
-pub no_promise : (view : View) (place regency : ℕ) (es : List LogEntry) (slot : Slot) → Each (IsWithin view place regency) es → slot.view ≡ view.number → slot.regency ≡ regency
+pub no_promise : (es : List LogEntry) (slot : Slot) → ArePromisedUpTo slot.view es → greatest_regency slot.view es ≤ slot.regency
     → (promise : Promise) → Among (Promised promise) es → IsBelow slot promise → ⊥
-no_promise view place regency es slot all v r promise there (inl less) =
-    let is = each_among (IsWithin view place regency) es (Promised promise) all there in
-    let of : promise.view ≡ view.number = is.of_view in
-    omega (arith, less, of, v)
-no_promise view place regency es slot all v r promise there (inr below) =
-    let is = each_among (IsWithin view place regency) es (Promised promise) all there in
-    let most : promise.regency ≤ regency = is.most in
+no_promise es slot newest greatest promise there (inl less) = let most = newest promise there in absurd (omega (arith, less, most))
+no_promise es slot newest greatest promise there (inr below) =
+    let most = promise_most slot.view es promise (sym below.0) there in
     let less : slot.regency < promise.regency = below.1 in
-    omega (arith, less, most, r)
+    absurd (omega (arith, less, most, greatest))
 
 pub may_vote : {S : Type 0} (stated : List Statement) (view : View) (n : Node S) (digest : List ℕ) → IsSound stated view n → is_open n ≡ true
     → is_within (bound_at (next_place n) (start_of n)) digest ≡ true → MayVote n.entries (open_slot n) digest
-unfolding start_of
+unfolding start_of regency_of
 may_vote stated view n digest is opened within =
     let o = opens n opened in
     record {
       in_turn = λ later. in_turn n.entries n.replica.place (made_latest stated view n is o.free) later;
-      promises = no_promise view (next_place n) (regency_of n) n.entries (open_slot n) is.within (ap (λ (v : View). v.number) (in_force stated view n is)) refl;
+      promises = no_promise n.entries (open_slot n) (number_newest stated view n is) (omega arith);
       synced = λ some. begun_by (view_of n) (regency_of n) (next_place n) n.entries digest (start_of n) refl some o.begun within;
     }
 
@@ -128,8 +119,11 @@ tidy_vote stated view n is free =
       promised = λ some. promised_greatest (view_of n).number n.entries some;
     }
 
-pub open_within : {S : Type 0} (stated : List Statement) (view : View) (n : Node S) → IsSound stated view n → IsUpTo view (next_place n) (max (regency_of n) 0) (open_slot n)
-open_within stated view n is = record { of_view = ap (λ (v : View). v.number) (in_force stated view n is); place_is = omega arith; regency_is = omega arith }
+pub open_within : {S : Type 0} (stated : List Statement) (view : View) (n : Node S) (e : LogEntry) → IsSound stated view n → IsUpTo n.replica.views (next_place n) (n.entries ++ e ∷ []) (open_slot n)
+unfolding regency_of
+open_within stated view n e is =
+    let more = promised_push n.entries e (view_of n).number in
+    record { of_view = number_next stated view n is; place_is = omega arith; regency_is = omega (arith, more) }
 
 -- ---- nothing of the slot stands there
 

@@ -9,8 +9,8 @@ use Rattle.agreement_laws.specs.Statements.{Statement}
 use Rattle.node_rules.specs.Arrivals.{is_batch_for}
 use Rattle.node_rules.specs.Nodes.{Node, bound_at, is_open, is_within, next_place, open_slot, recording, regency_of, start_of, view_of}
 use Rattle.node_rules.specs.Rules.{accept_batch, accepting, accepts, ballot, votable, write_batch, writes, writing, written}
-use Rattle.smart_base.specs.Lists.{Each, or_else}
-use Rattle.smart_base.specs.Views.{View, is_view}
+use Rattle.smart_base.specs.Lists.{or_else}
+use Rattle.smart_base.specs.Views.{View}
 use Rattle.smart_statements.specs.Equality.{same_slot}
 use Rattle.smart_statements.specs.Kinds.{ballots}
 use Rattle.smart_messages.specs.declared.message.Message.{Message}
@@ -26,9 +26,9 @@ use Rattle.vote_book.specs.declared.entry.LogEntry.{LogEntry}
 use Rattle.vote_book.specs.declared.entry.LogEntry.TheVariants.{Accepted, Wrote}
 use Rattle.node_laws.proofs.Certified.{kept_certificate}
 use Rattle.node_laws.proofs.Lists.{among_last, guard}
-use Rattle.node_laws.proofs.Nodes.{Arrived, Late, MayPush, Shows, holds, records}
+use Rattle.node_laws.proofs.Nodes.{Arrived, Late, MayPush, Shows, holds, in_force_of, in_force_viewed, number_newest, records}
 use Rattle.node_laws.proofs.Stated.{proposal_asked}
-use Rattle.node_laws.proofs.Votes.{in_force, may_vote, none_accepted, none_written, open_within, opens, tidy_vote}
+use Rattle.node_laws.proofs.Votes.{may_vote, none_accepted, none_written, open_within, opens, tidy_vote}
 use Rattle.node_laws.specs.Sound.{IsBatchAt, IsSound}
 use Rattle.smart_statements.specs.declared.statement.VoteKind.TheVariants as kinds
 use Rattle.node_rules.specs.declared.node.Target.TheVariants as targets
@@ -89,13 +89,14 @@ writes_by n p is =
 write_of_slot : {S : Type 0} (n : Node S) (p : Proposed) → LogEntry
 write_of_slot n p = Wrote (record { slot = open_slot n; digest = p.head.statement.digest })
 
-may_write : {S : Type 0} (stated : List Statement) (view : View) (n : Node S) (p : Proposed) → IsSound stated view n → Writes n p → MayPush stated view n (write_of_slot n p)
+may_write : {S : Type 0} (stated : List Statement) (view : View) (n : Node S) (p : Proposed) → IsSound stated view n → Writes n p → MayPush stated n (write_of_slot n p)
 unfolding write_of_slot
 may_write stated view n p is w = record {
   admits = record { vote = may_vote stated view n p.head.statement.digest is w.opened w.may; first = none_written (open_slot n) n.entries w.once };
   tidy = tidy_vote stated view n is (opens n w.opened).free;
-  within = open_within stated view n is;
-  backed = tt;
+  within = open_within stated view n (write_of_slot n p) is;
+  newest = number_newest stated view n is;
+  backed = λ v there. tt;
   batch = tt;
 }
 
@@ -108,7 +109,7 @@ writes_with {S = S} stated view n (Some p) is at =
     let says_it = says.Voted (signed ballots n.secret n.id (record { kind = kinds.Write; slot = open_slot n; digest = p.head.statement.digest })) in
     holds stated view (recording n e) targets.View (ballot n kinds.Write p.head.statement.digest) pushed
     (each_filter (Shows stated (recording n e)) (says.verifies n.secret) (says_it ∷ []) (inr (refl, among_last e n.entries), tt))
-    (each_filter (Late stated view (recording n e)) (says.verifies n.secret) (says_it ∷ []) (inr tt, tt))
+    (each_filter (Late stated (recording n e)) (says.verifies n.secret) (says_it ∷ []) (inr tt, tt))
 
 pub sound_writes : {S : Type 0} (stated : List Statement) (view : View) (n : Node S) → IsSound stated view n → IsSound stated view (writes n)
 unfolding writes
@@ -147,22 +148,23 @@ accepts_by n p is =
       proposed = proposed_is n.arrivals (open_slot n) p v.1;
     }
 
--- a certificate of the view in force is one of the view
-pub drawn_at : (secret : List ℕ) (stated : List Statement) (view v : View) (arrivals : List Message) (kind : VoteKind) (place regency : ℕ) (digest : List ℕ) → v ≡ view → is_view view ≡ true
-    → Each (Arrived secret stated view) arrivals → has_quorum arrivals v kind (slot_of v place regency) digest ≡ true
-    → IsDrawn secret view stated (record { kind = kind; slot = slot_of view place regency; digest = digest }) (certificate_votes arrivals v kind (slot_of v place regency) digest)
-drawn_at secret stated view v arrivals kind place regency digest same viewed kept enough =
-    subst
-    (λ (w : View). has_quorum arrivals w kind (slot_of w place regency) digest ≡ true
-    → IsDrawn secret view stated (record { kind = kind; slot = slot_of view place regency; digest = digest }) (certificate_votes arrivals w kind (slot_of w place regency) digest))
-    (sym same) (λ here. kept_certificate secret stated view arrivals kind (slot_of view place regency) digest viewed refl kept here) enough
+-- kept votes of the view in force for its next place are a certificate in each known view of its number
+pub drawn_now : {S : Type 0} (stated : List Statement) (view : View) (n : Node S) (kind : VoteKind) (regency : ℕ) (digest : List ℕ) → IsSound stated view n
+    → has_quorum n.arrivals (view_of n) kind (slot_of (view_of n) (next_place n) regency) digest ≡ true → (v : View) → Among v n.replica.views → (view_of n).number ≡ v.number
+    → IsDrawn n.secret v stated (record { kind = kind; slot = slot_of v (next_place n) regency; digest = digest })
+    (certificate_votes n.arrivals (view_of n) kind (slot_of (view_of n) (next_place n) regency) digest)
+drawn_now stated view n kind regency digest is enough v there same =
+    let slot : Slot = slot_of (view_of n) (next_place n) regency in
+    in_force_of stated view n is
+    (λ (u : View). IsDrawn n.secret u stated (record { kind = kind; slot = slot_of u (next_place n) regency; digest = digest }) (certificate_votes n.arrivals (view_of n) kind slot digest)) v there same
+    (kept_certificate n.secret stated (view_of n) n.arrivals kind slot digest (in_force_viewed stated view n is) refl is.arrivals enough)
 
 pub proposal_may : (secret : List ℕ) (stated : List Statement) (view : View) (p : Proposed) (slot : Slot) → Arrived secret stated view (Propose p) → p.head.statement.slot ≡ slot
     → slot.view ≡ view.number → IsBatchAt secret stated slot.place p.head.statement.digest p.batch
 proposal_may secret stated view p slot is at of =
     let here : p.head.statement.slot.view ≡ view.number = ap (λ (s : Slot). s.view) at ∙ of in
     record {
-      may = subst (λ (s : Slot). is_batch_for secret s.place p.head.statement.digest p.batch ≡ true) at (is.0 here).batch;
+      may = subst (λ (s : Slot). is_batch_for secret s.place p.head.statement.digest p.batch ≡ true) at (is.0.1 here).batch;
       asked = proposal_asked secret stated view p is here;
     }
 
@@ -174,32 +176,31 @@ accept_with n p = record {
   batch = p.batch;
 }
 
-may_accept : {S : Type 0} (stated : List Statement) (view : View) (n : Node S) (p : Proposed) → is_view view ≡ true → IsSound stated view n → Accepts n p
-    → MayPush stated view n (Accepted (accept_with n p))
+may_accept : {S : Type 0} (stated : List Statement) (view : View) (n : Node S) (p : Proposed) → IsSound stated view n → Accepts n p → MayPush stated n (Accepted (accept_with n p))
 unfolding accept_with
-may_accept stated view n p viewed is a = record {
+may_accept stated view n p is a = record {
   admits = record { vote = may_vote stated view n p.head.statement.digest is a.opened a.may; first = none_accepted (open_slot n) n.entries a.once };
   tidy = tidy_vote stated view n is (opens n a.opened).free;
-  within = open_within stated view n is;
-  backed = λ of. drawn_at n.secret stated view (view_of n) n.arrivals kinds.Write (next_place n) (regency_of n) p.head.statement.digest (in_force stated view n is) viewed is.arrivals a.written;
-  batch = proposal_may n.secret stated view p (open_slot n) (each_among (Arrived n.secret stated view) n.arrivals (Propose p) is.arrivals a.proposed.there) a.proposed.slot_is
-      (ap (λ (v : View). v.number) (in_force stated view n is));
+  within = open_within stated view n (Accepted (accept_with n p)) is;
+  newest = number_newest stated view n is;
+  backed = λ v there same. drawn_now stated view n kinds.Write (regency_of n) p.head.statement.digest is a.written v there same;
+  batch = proposal_may n.secret stated (view_of n) p (open_slot n) (each_among (Arrived n.secret stated (view_of n)) n.arrivals (Propose p) is.arrivals a.proposed.there) a.proposed.slot_is refl;
 }
 
-accepts_with : {S : Type 0} (stated : List Statement) (view : View) (n : Node S) (o : Option Proposed) → is_view view ≡ true → IsSound stated view n → accepting n ≡ o
+accepts_with : {S : Type 0} (stated : List Statement) (view : View) (n : Node S) (o : Option Proposed) → IsSound stated view n → accepting n ≡ o
     → IsSound stated view (accept_batch n o)
 unfolding accept_batch accept_with
-accepts_with stated view n None viewed is at = is
-accepts_with {S = S} stated view n (Some p) viewed is at =
+accepts_with stated view n None is at = is
+accepts_with {S = S} stated view n (Some p) is at =
     let a : Accept = accept_with n p in
     let e : LogEntry = Accepted a in
-    let pushed : IsSound stated view (recording n e) = records stated view n e is (may_accept stated view n p viewed is (accepts_by n p at)) refl in
+    let pushed : IsSound stated view (recording n e) = records stated view n e is (may_accept stated view n p is (accepts_by n p at)) refl in
     let says_it = says.Voted (signed ballots n.secret n.id (record { kind = kinds.Accept; slot = open_slot n; digest = p.head.statement.digest })) in
     holds stated view (recording n e) targets.View (ballot n kinds.Accept p.head.statement.digest) pushed
     (each_filter (Shows stated (recording n e)) (says.verifies n.secret) (says_it ∷ [])
     (inr (refl, record { entry = a; there = among_last e n.entries; slot_is = refl; digest_is = refl }), tt))
-    (each_filter (Late stated view (recording n e)) (says.verifies n.secret) (says_it ∷ []) (inr tt, tt))
+    (each_filter (Late stated (recording n e)) (says.verifies n.secret) (says_it ∷ []) (inr tt, tt))
 
-pub sound_accepts : {S : Type 0} (stated : List Statement) (view : View) (n : Node S) → is_view view ≡ true → IsSound stated view n → IsSound stated view (accepts n)
+pub sound_accepts : {S : Type 0} (stated : List Statement) (view : View) (n : Node S) → IsSound stated view n → IsSound stated view (accepts n)
 unfolding accepts
-sound_accepts stated view n viewed is = accepts_with stated view n (accepting n) viewed is refl
+sound_accepts stated view n is = accepts_with stated view n (accepting n) is refl

@@ -11,7 +11,7 @@ ghost use Rattle.vote_book.specs.declared.entry.Decision.{Decision};
 ghost use Rattle.vote_book.specs.declared.entry.LogEntry.{LogEntry};
 ghost use Rattle.vote_book.specs.declared.entry.LogEntry.TheVariants.{Decided};
 ghost use Rattle.book_laws.specs.BookCuts.{cut_at, InstallUpTo};
-ghost use Rattle.replica_rules.specs.Replicas.{state, after_batches};
+ghost use Rattle.replica_rules.specs.Replicas.{state, after_batches, views_after};
 ghost use Rattle.replica_rules.specs.Seals.{digest_of};
 ghost use Rattle.agreement_laws.specs.Fronts.{IsFront};
 ghost use Rattle.agreement_laws.specs.Lists.{Certified};
@@ -25,7 +25,7 @@ ghost use Rattle.node_rules.specs.Nodes.{Node, greatest_regency, ring_of};
 ghost use Rattle.node_rules.specs.Steps.{step_of, released, opened, Outset, outset};
 ghost use Rattle.node_rules.specs.Kept.{core_step};
 ghost use Rattle.node_rules.specs.Reopening.{reopened, stopped, decided_of, damaged, entries_in, rests};
-ghost use Rattle.node_laws.specs.Sound.{IsBegun, IsSound, IsStatedEvent, AreAmong, place_if};
+ghost use Rattle.node_laws.specs.Sound.{IsBegun, IsIn, IsSound, IsStatedEvent, AreAmong, place_if, view_for};
 ghost use Rattle.node_laws.specs.Restored.{IsSoundBook};
 ghost use Rattle.node_laws.specs.Restoring.{AreAlong, DecidesInTurn, IsCertified, IsFirstDamage, outset_behind, resumed_node};
 ghost use Rattle.node_rules.specs.Entries.{AddsAtMost};
@@ -35,44 +35,49 @@ use smart_service::service::Service;
 /// A node stays sound whatever comes to it, if everything that stands in it and verifies has been
 /// stated. Its book stays lawful and tidy, and its entries rest on what has been stated. Each
 /// statement in a message that it holds has been stated before, or is its own. Its own are shown by
-/// the entries that the message waits for.
+/// the entries that the message waits for. The views of its replica follow each other, from the group's
+/// first on.
 pub fn a_node_stays_sound<S: Service>()
     ensures first { (secret : List ℕ) (id : ℕ) (view : View) (period : ℕ) → is_view view ≡ true → IsSound [] view (opened (outset S.meaning secret id view period)) }
-    ensures step { (stated : List Statement) (view : View) (n : Node S) (event : NodeEvent) → is_view view ≡ true → IsSound stated view n → IsStatedEvent (ring_of n) stated event →
-        IsSound stated view (step_of S.meaning n event).node }
-    ensures released { (stated : List Statement) (view : View) (n : Node S) → IsSound stated view n → IsSound stated view (released n) }
-    ensures more { (stated more : List Statement) (view : View) (n : Node S) → AreAmong stated more → IsSound stated view n → IsSound more view n }
+    ensures step { (stated : List Statement) (first : View) (n : Node S) (event : NodeEvent) → IsSound stated first n → IsStatedEvent (ring_of n) stated event →
+        IsSound stated first (step_of S.meaning n event).node }
+    ensures released { (stated : List Statement) (first : View) (n : Node S) → IsSound stated first n → IsSound stated first (released n) }
+    ensures more { (stated more : List Statement) (first : View) (n : Node S) → AreAmong stated more → IsSound stated first n → IsSound more first n }
 {}
 
 /// A member may restart from any prefix of its book (recovery: Dura-SMaRt, USENIX ATC 2013).
 ///
-/// - `book`: the book of a sound node that began with the empty replica is sound by itself.
+/// - `book`: the book of a sound node that began with the empty replica is sound by itself, in the node's
+///   views.
 /// - `front`, `more`: so is each prefix of it, and so it is after more has been stated.
 /// - `decided`: a prefix of the book decides a prefix of what the book decides.
 /// - `latest`: the last place that the entries make is the latest, too.
 /// - `turn`: each decision is of the place behind the last one that is made.
-/// - `certified`: a quorum of the view has accepted each decided batch at its place, by what has been
-///   stated.
+/// - `held`, `certified`: a view of the decision's number holds its place. A quorum of it has accepted the
+///   batch there, by what has been stated.
 /// - `node`: from any outset the node after a restart has the entries, all restored and firm, the
 ///   outset's replica after what they decide past its place, and nothing else of the earlier life.
-/// - `reopened`: the node after a restart from a sound book that installs nothing is sound. A book that
-///   installs has a checkpoint.
+/// - `reopened`: the node after a restart from a sound book that installs nothing is sound, if the book is
+///   so in the views behind what it decides. A book that installs has a checkpoint.
 /// - `place`, `count`, `along`: its place is the last one that the entries make. Each place is decided,
 ///   one after the other, so the entries decide along their own list.
 /// - `read`, `undamaged`: the bytes of the entries are read as these entries, and none is damaged.
+///   INTERIM(views): one view is in force throughout.
 pub fn a_restart_is_sound<S: Service>()
-    ensures book { (stated : List Statement) (view : View) (n : Node S) → IsSound stated view n → n.opening ≡ 0 → IsSoundBook (ring_of n) stated view n.entries }
-    ensures front { (secret : List ℕ) (stated : List Statement) (view : View) (entries : List LogEntry) (k : ℕ) → IsSoundBook secret stated view entries →
-        IsSoundBook secret stated view (take k entries) }
+    ensures book { (stated : List Statement) (first : View) (n : Node S) → IsSound stated first n → n.opening ≡ 0 → IsSoundBook (ring_of n) stated n.replica.views n.entries }
+    ensures front { (secret : List ℕ) (stated : List Statement) (views : List View) (entries : List LogEntry) (k : ℕ) → IsSoundBook secret stated views entries →
+        IsSoundBook secret stated views (take k entries) }
     ensures decided { (past : ℕ) (entries : List LogEntry) (k : ℕ) → IsFront (decided_of past (take k entries)) (decided_of past entries) }
-    ensures more { (secret : List ℕ) (stated more : List Statement) (view : View) (entries : List LogEntry) → AreAmong stated more → IsSoundBook secret stated view entries →
-        IsSoundBook secret more view entries }
-    ensures latest { (secret : List ℕ) (stated : List Statement) (view : View) (entries : List LogEntry) → IsSoundBook secret stated view entries →
+    ensures more { (secret : List ℕ) (stated more : List Statement) (views : List View) (entries : List LogEntry) → AreAmong stated more → IsSoundBook secret stated views entries →
+        IsSoundBook secret more views entries }
+    ensures latest { (secret : List ℕ) (stated : List Statement) (views : List View) (entries : List LogEntry) → IsSoundBook secret stated views entries →
         latest_made entries ≡ place_if (last_made entries) }
-    ensures turn { (secret : List ℕ) (stated : List Statement) (view : View) (before : List LogEntry) (d : Decision) (after : List LogEntry) →
-        IsSoundBook secret stated view (before ++ Decided d ∷ after) → d.slot.place ≡ last_made before + 1 }
-    ensures certified { (secret : List ℕ) (stated : List Statement) (view : View) (entries : List LogEntry) (d : Decision) → IsSoundBook secret stated view entries → Among (Decided d) entries →
-        Certified secret stated view d.slot.place (digest_of d.batch) }
+    ensures turn { (secret : List ℕ) (stated : List Statement) (views : List View) (before : List LogEntry) (d : Decision) (after : List LogEntry) →
+        IsSoundBook secret stated views (before ++ Decided d ∷ after) → d.slot.place ≡ last_made before + 1 }
+    ensures held { (secret : List ℕ) (stated : List Statement) (views : List View) (entries : List LogEntry) (d : Decision) → IsSoundBook secret stated views entries → Among (Decided d) entries →
+        IsIn views d.slot.place d.slot.view }
+    ensures certified { (secret : List ℕ) (stated : List Statement) (views : List View) (entries : List LogEntry) (d : Decision) → IsSoundBook secret stated views entries → Among (Decided d) entries →
+        (v : View) → view_for views d.slot.place ≡ Some v → Certified secret stated v d.slot.place (digest_of d.batch) }
     ensures node { (o : Outset S) (e : LogEntry) (es : List LogEntry) → reopened S.meaning o (e ∷ es) ≡
         record (stopped o) {
           entries = e ∷ es;
@@ -80,16 +85,16 @@ pub fn a_restart_is_sound<S: Service>()
           restored = length (e ∷ es);
           firm = length (e ∷ es);
         } }
-    ensures reopened { (secret : List ℕ) (id : ℕ) (stated : List Statement) (view : View) (period : ℕ) (entries : List LogEntry) → IsSoundBook secret stated view entries → InstallUpTo 0 entries →
-        IsSound stated view (reopened S.meaning (outset S.meaning secret id view period) entries) }
-    ensures place { (secret : List ℕ) (id : ℕ) (stated : List Statement) (view : View) (period : ℕ) (entries : List LogEntry) → IsSoundBook secret stated view entries → InstallUpTo 0 entries →
+    ensures reopened { (secret : List ℕ) (id : ℕ) (stated : List Statement) (view : View) (period : ℕ) (entries : List LogEntry) → is_view view ≡ true →
+        IsSoundBook secret stated (views_after view (decided_of 0 entries)) entries → InstallUpTo 0 entries → IsSound stated view (reopened S.meaning (outset S.meaning secret id view period) entries) }
+    ensures place { (secret : List ℕ) (id : ℕ) (stated : List Statement) (view : View) (period : ℕ) (views : List View) (entries : List LogEntry) → IsSoundBook secret stated views entries → InstallUpTo 0 entries →
         (reopened S.meaning (outset S.meaning secret id view period) entries).replica.place ≡ last_made entries }
-    ensures count { (secret : List ℕ) (stated : List Statement) (view : View) (entries : List LogEntry) → IsSoundBook secret stated view entries → InstallUpTo 0 entries →
+    ensures count { (secret : List ℕ) (stated : List Statement) (views : List View) (entries : List LogEntry) → IsSoundBook secret stated views entries → InstallUpTo 0 entries →
         last_made entries ≡ length (decided_of 0 entries) }
-    ensures along { (secret : List ℕ) (stated : List Statement) (view : View) (entries : List LogEntry) → IsSoundBook secret stated view entries → InstallUpTo 0 entries →
+    ensures along { (secret : List ℕ) (stated : List Statement) (views : List View) (entries : List LogEntry) → IsSoundBook secret stated views entries → InstallUpTo 0 entries →
         AreAlong (decided_of 0 entries) entries }
     ensures read { (entries : List LogEntry) → Each FitsEntry entries → entries_in (map entry_text entries) ≡ entries }
-    ensures undamaged { (secret : List ℕ) (stated : List Statement) (view : View) (entries : List LogEntry) → IsSoundBook secret stated view entries → InstallUpTo 0 entries → Each FitsEntry entries →
+    ensures undamaged { (secret : List ℕ) (stated : List Statement) (view : View) (entries : List LogEntry) → IsSoundBook secret stated (view ∷ []) entries → InstallUpTo 0 entries → Each FitsEntry entries →
         damaged secret 0 view (map entry_text entries) ≡ None }
 {}
 
@@ -98,41 +103,42 @@ pub fn a_restart_is_sound<S: Service>()
 /// rule). What it has written decides along a list of batches.
 ///
 /// - `read`, `undamaged`: the bytes of a cut's entries are read as these entries, and none is damaged
-///   behind the checkpoint.
-/// - `promised`: a cut promises the greatest regency of what was written.
+///   behind the checkpoint. INTERIM(views): one view is in force throughout.
+/// - `promised`: a cut promises the greatest regency of what was written, in each view that no known one is
+///   later than.
 /// - `decided`: past the checkpoint's place a cut decides what the whole decides there.
 /// - `listed`, `count`: that is what the list has past this place, up to the last place that was made.
 /// - `placed`: the checkpoint's replica is at its place.
 /// - `node`: the node goes on with the state after the list's batches up to the last place that was made.
 ///   Its book is the cut, all restored and firm, and its own snapshot is the checkpoint.
-/// - `reopened`: that node is sound.
+/// - `reopened`: that node is sound, if what was written is so in the views behind those batches.
 /// - `written`: what a sound node writes behind the cut is sound behind all that was written.
 /// - `shown`: each statement in a message that leaves has been stated, or is the member's own. All that
 ///   was written, up to the firm entries, shows the latter.
 pub fn a_restart_from_a_checkpoint_goes_on<S: Service>()
     ensures read { (place : ℕ) (entries : List LogEntry) → Each FitsEntry entries → entries_in (map entry_text (cut_at place entries)) ≡ cut_at place entries }
-    ensures undamaged { (secret : List ℕ) (stated : List Statement) (view : View) (place : ℕ) (entries : List LogEntry) → IsSoundBook secret stated view entries → InstallUpTo place entries → Each FitsEntry entries →
+    ensures undamaged { (secret : List ℕ) (stated : List Statement) (view : View) (place : ℕ) (entries : List LogEntry) → IsSoundBook secret stated (view ∷ []) entries → InstallUpTo place entries → Each FitsEntry entries →
         damaged secret place view (map entry_text (cut_at place entries)) ≡ None }
-    ensures promised { (secret : List ℕ) (stated : List Statement) (view : View) (place : ℕ) (entries : List LogEntry) → IsSoundBook secret stated view entries →
-        greatest_regency view.number (cut_at place entries) ≡ greatest_regency view.number entries }
-    ensures decided { (secret : List ℕ) (stated : List Statement) (view : View) (place : ℕ) (entries : List LogEntry) → IsSoundBook secret stated view entries →
+    ensures promised { (secret : List ℕ) (stated : List Statement) (views : List View) (place number : ℕ) (entries : List LogEntry) → IsSoundBook secret stated views entries →
+        ((v : View) → Among v views → v.number ≤ number) → greatest_regency number (cut_at place entries) ≡ greatest_regency number entries }
+    ensures decided { (secret : List ℕ) (stated : List Statement) (views : List View) (place : ℕ) (entries : List LogEntry) → IsSoundBook secret stated views entries →
         decided_of place (cut_at place entries) ≡ decided_of place entries }
-    ensures listed { (secret : List ℕ) (stated : List Statement) (view : View) (place : ℕ) (batches : List Batch) (entries : List LogEntry) → IsSoundBook secret stated view entries →
+    ensures listed { (secret : List ℕ) (stated : List Statement) (views : List View) (place : ℕ) (batches : List Batch) (entries : List LogEntry) → IsSoundBook secret stated views entries →
         InstallUpTo place entries → AreAlong batches entries → decided_of place (cut_at place entries) ≡ take (length (decided_of place (cut_at place entries))) (drop place batches) }
-    ensures count { (secret : List ℕ) (stated : List Statement) (view : View) (place : ℕ) (entries : List LogEntry) → IsSoundBook secret stated view entries → (0 < place → HasMade entries place) →
+    ensures count { (secret : List ℕ) (stated : List Statement) (views : List View) (place : ℕ) (entries : List LogEntry) → IsSoundBook secret stated views entries → (0 < place → HasMade entries place) →
         InstallUpTo place entries → last_made entries ≡ place + length (decided_of place (cut_at place entries)) }
     ensures placed { (view : View) (place : ℕ) (batches : List Batch) (entries : List LogEntry) → (0 < place → HasMade entries place) → AreAlong batches entries →
         (state S.meaning view (take place batches)).place ≡ place }
-    ensures node { (secret : List ℕ) (id : ℕ) (stated : List Statement) (view : View) (period place : ℕ) (batches : List Batch) (checkpoint : Option OwnSnapshot) (e : LogEntry) (es : List LogEntry) →
-        IsSoundBook secret stated view (e ∷ es) → (0 < place → HasMade (e ∷ es) place) → InstallUpTo place (e ∷ es) → AreAlong batches (e ∷ es) →
+    ensures node { (secret : List ℕ) (id : ℕ) (stated : List Statement) (view : View) (views : List View) (period place : ℕ) (batches : List Batch) (checkpoint : Option OwnSnapshot) (e : LogEntry) (es : List LogEntry) →
+        IsSoundBook secret stated views (e ∷ es) → (0 < place → HasMade (e ∷ es) place) → InstallUpTo place (e ∷ es) → AreAlong batches (e ∷ es) →
         reopened S.meaning (outset_behind S.meaning secret id view period place batches checkpoint) (cut_at place (e ∷ es)) ≡
         resumed_node S.meaning secret id view period place batches checkpoint (e ∷ es) }
     ensures reopened { (secret : List ℕ) (id : ℕ) (stated : List Statement) (view : View) (period place : ℕ) (batches : List Batch) (checkpoint : Option OwnSnapshot) (e : LogEntry) (es : List LogEntry) →
-        IsSoundBook secret stated view (e ∷ es) → (0 < place → HasMade (e ∷ es) place) → InstallUpTo place (e ∷ es) → AreAlong batches (e ∷ es) →
+        is_view view ≡ true → IsSoundBook secret stated (views_after view (take (last_made (e ∷ es)) batches)) (e ∷ es) → (0 < place → HasMade (e ∷ es) place) → InstallUpTo place (e ∷ es) → AreAlong batches (e ∷ es) →
         IsSound stated view (reopened S.meaning (outset_behind S.meaning secret id view period place batches checkpoint) (cut_at place (e ∷ es))) }
-    ensures written { (stated : List Statement) (view : View) (n : Node S) (diary more : List LogEntry) → IsSound stated view n → IsSoundBook (ring_of n) stated view diary →
-        n.entries ≡ cut_at n.opening diary ++ more → (0 < n.opening → HasMade diary n.opening) → (diary ≡ [] → ⊥) → IsSoundBook (ring_of n) stated view (diary ++ more) }
-    ensures shown { (stated : List Statement) (view : View) (n : Node S) (diary more : List LogEntry) (j : ℕ) (h : Held) → IsSound stated view n → IsSoundBook (ring_of n) stated view diary →
+    ensures written { (stated : List Statement) (first : View) (n : Node S) (diary more : List LogEntry) → IsSound stated first n → IsSoundBook (ring_of n) stated n.replica.views diary →
+        n.entries ≡ cut_at n.opening diary ++ more → (0 < n.opening → HasMade diary n.opening) → (diary ≡ [] → ⊥) → IsSoundBook (ring_of n) stated n.replica.views (diary ++ more) }
+    ensures shown { (stated : List Statement) (first : View) (n : Node S) (diary more : List LogEntry) (j : ℕ) (h : Held) → IsSound stated first n → IsSoundBook (ring_of n) stated n.replica.views diary →
         n.entries ≡ cut_at n.opening diary ++ more → n.restored ≡ length (cut_at n.opening diary) → (0 < n.opening → HasMade diary n.opening) → (diary ≡ [] → ⊥) →
         Among h n.held → h.needs ≤ n.restored + j →
         Each (λ s. Among s stated ⊎ ((signer_of s ≡ Member n.id) × IsShown digest_of (diary ++ take j more) s)) (statements (ring_of n) h.message) }

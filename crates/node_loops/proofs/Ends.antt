@@ -6,6 +6,9 @@ use Rattle.node_ends.specs.Intakes.{Reads}
 use Rattle.node_ends.specs.Outlets.{Writes}
 use Rattle.node_ends.specs.declared.intake.Intake.{Intake}
 use Rattle.node_ends.specs.declared.outlet.Outlet.{Outlet}
+use Rattle.node_endings.specs.Loops.{gave_up}
+use Rattle.node_endings.specs.declared.ending.LoopEnd.{LoopEnd}
+use Rattle.node_endings.specs.declared.ending.LoopEnd.TheVariants.{Done, Over, Form, Failed, NoMemory}
 
 pub reads-by : (a b : Option (List ℕ)) (cut early : Bool) (i j : Intake) → cut ≡ early → Reads a b early i j → Reads a b cut i j
 reads-by a b cut early i j is p = subst (λ (l : Bool). Reads a b l i j) (sym is) p
@@ -15,3 +18,11 @@ writes-by a b up i j is p = subst (λ (l : Bool). Writes a b (not l) i j) (sym i
 
 pub last_up : (last place : ℕ) → last ≤ last_then last place
 last_up last place = grind (arith, nat_tests)
+
+-- a loop that gave up is not done
+pub not_done : (end : LoopEnd) → gave_up end ≡ true → end ≡ Done → ⊥
+not_done Done gave is = cc
+not_done Over gave is = cc
+not_done (Form frame) gave is = cc
+not_done Failed gave is = cc
+not_done NoMemory gave is = cc

@@ -1,5 +1,5 @@
 -- A life that ends before its loops begin.
-use Rattle.std.proofs.Common.{◌≡◌, ◌≤◌, ℕ, false, List, [], take, Option, refl}
+use Rattle.std.proofs.Common.{◌≡◌, ◌≤◌, ℕ, false, List, [], take, Option, refl, arith}
 use Rattle.std.specs.Io.KnownBytes.{Appends}
 use Rattle.std.proofs.KnownBytes.{Appends-nil}
 use Rattle.faults.specs.declared.Fault.{Fault}
@@ -10,6 +10,7 @@ use Rattle.durable_store.specs.declared.store.Store.{Store}
 use Rattle.node_rules.specs.Nodes.{Node}
 use Rattle.trail.specs.Trails.{trail_text}
 use Rattle.trail.specs.declared.event.TrailEvent.{TrailEvent}
+use Rattle.trail_rules.specs.Replays.{core_steps, needed, replay}
 use Rattle.node_seat.specs.Seats.{HasWrittenFirst}
 use Rattle.node_seat.proofs.Fronts.{wrote-all, wrote-front}
 use Rattle.node_run.specs.Lives.{Life, LifeEnd}
@@ -30,22 +31,25 @@ as-it-is told store = record { disks = refl; firm = refl; generation = refl; wai
 module _ {S D : Type 0} (told remembers : Type 0) (cells : D → Cells) (moment : D → ℕ) (left_since : D → ℕ → List ℕ → Type 0) where
   -- no round was made
   no-rounds : (m : Meaning S) (opening : Node S) (trail : List TrailEvent) (restored : ℕ) (status : NodeStatus) (store : Store D) → (status ≡ ends.Ok → ⊥)
+      → needed (core_steps m) opening trail ≤ restored → (replay (core_steps m) opening trail).firm ≤ restored
       → IsLeftBy told remembers cells moment left_since m opening trail restored status store store
-  no-rounds m opening trail restored status store failed = record {
+  no-rounds m opening trail restored status store failed needs firm = record {
     taken = [];
     faulty = false;
     front = refl;
+    needs = omega (arith, needs);
+    told_firm = omega (arith, firm);
     whole = λ well. absurd (failed well);
     rounds = record { count = 0; made = (refl, (refl, refl)) };
   }
 
-  module _ (life : Life S) (restored : ℕ) (store : Store D) where
+  module _ (life : Life S) (restored : ℕ) (store : Store D) (few : life.firm ≤ restored) where
     over-store : (status : NodeStatus) → (status ≡ ends.Ok → ⊥) → LifeEnd life status → LifeFrom told remembers cells moment left_since life restored store store status
     over-store status failed end = record {
       end = end;
       begun = store;
       as_opened = as-it-is told store;
-      left_by = no-rounds life.meaning life.opening end.lived.trail restored status store failed;
+      left_by = no-rounds life.meaning life.opening end.lived.trail restored status store failed (omega (arith, end.lived.needs, few)) (omega (arith, end.lived.told_firm, few));
     }
 
     module _ (unread : life.left_after ≡ life.left_before) (unwritten : life.written_after ≡ life.written_before) (firm : life.opening.firm ≤ life.firm) where

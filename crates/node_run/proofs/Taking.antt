@@ -25,6 +25,10 @@ logged-done all whole =
     let checked = both-true (is_done all.received && is_done all.delivered && is_done all.sent && is_done all.logged) (is_done all.checked) whole in
     done-is all.logged (both-true (is_done all.received && is_done all.delivered && is_done all.sent) (is_done all.logged) checked.0).1
 
+-- a number of entries that are said to be stored, by those that were taken
+pub within-taken : (number restored : ℕ) (lane : LaneEnd) (taken : List (List ℕ)) → number ≤ restored + lane.firm → lane.firm ≤ lane.taken → lane.taken ≡ length taken → number ≤ restored + length taken
+within-taken number restored lane taken told order counts = omega (arith, told, order, counts)
+
 module _ {S : Type 0} (m : Meaning S) (opening : Node S) (trail : List TrailEvent) (restored : ℕ) (taken : List (List ℕ)) (lane : LaneEnd)
     (firm : (replay (core_steps m) opening trail).firm ≤ restored + lane.firm) (put : lane.put ≡ length (replay (core_steps m) opening trail).entries - restored)
     (order : (lane.firm ≤ lane.taken) × (lane.taken ≤ lane.put)) (counts : lane.taken ≡ length taken) (front : IsFirst taken (made_texts restored (replay (core_steps m) opening trail).entries)) where

@@ -147,6 +147,7 @@ impl<S: Service, P: Place<S>, O: Sink> Seat<S, P, O> {
     pub fn stop(&mut self)
         ensures over { (self.new.over ≡ true) × (self.new.inner.trail.items ≡ self.old.inner.trail.items) }
         ensures handed { self.new.handed ≡ self.old.handed }
+        ensures cut { self.new.cut ≡ self.old.cut }
     {
         self.over = true;
     }
@@ -159,6 +160,7 @@ impl<S: Service, P: Place<S>, O: Sink> Seat<S, P, O> {
         ensures same { self.new.inner ≡ self.old.inner }
         ensures heard { link_heard_put self.new.from ≡ link_heard_put self.old.from }
         ensures handed { self.new.handed ≡ self.old.handed }
+        ensures cut { self.new.cut ≡ self.old.cut }
     {
         if self.inner.has_ended() {
             self.over = true;
@@ -178,6 +180,7 @@ impl<S: Service, P: Place<S>, O: Sink> Seat<S, P, O> {
         ensures same { (self.new.over ≡ self.old.over) × (self.new.inner.trail.items ≡ self.old.inner.trail.items) }
         ensures closing { self.new.closing ≡ true }
         ensures handed { self.new.handed ≡ self.old.handed }
+        ensures cut { self.new.cut ≡ self.old.cut }
     {
         self.closing = true;
     }
@@ -187,6 +190,7 @@ impl<S: Service, P: Place<S>, O: Sink> Seat<S, P, O> {
         ensures handed { result ≡ self.old.handed }
         ensures emptied { self.new.handed ≡ None }
         ensures same { (self.new.over ≡ self.old.over) × (self.new.inner.trail.items ≡ self.old.inner.trail.items) }
+        ensures cut { self.new.cut ≡ self.old.cut }
     {
         self.handed.take()
     }
@@ -195,6 +199,7 @@ impl<S: Service, P: Place<S>, O: Sink> Seat<S, P, O> {
     pub fn hand(&mut self, snapshot: Snapshot<S, P>)
         ensures handed { self.new.handed ≡ Some snapshot }
         ensures same { (self.new.over ≡ self.old.over) × (self.new.inner.trail.items ≡ self.old.inner.trail.items) }
+        ensures cut { self.new.cut ≡ self.old.cut }
     {
         self.handed = Some(snapshot);
     }
@@ -205,6 +210,7 @@ impl<S: Service, P: Place<S>, O: Sink> Seat<S, P, O> {
         ensures heard { link_heard_put self.new.from ≡ told_put told }
         ensures same { (self.new.over ≡ self.old.over) × (self.new.inner.trail.items ≡ self.old.inner.trail.items) }
         ensures handed { self.new.handed ≡ self.old.handed }
+        ensures cut { self.new.cut ≡ self.old.cut }
     {
         self.from.hear(told);
     }
@@ -216,6 +222,7 @@ impl<S: Service, P: Place<S>, O: Sink> Seat<S, P, O> {
         ensures same { (self.new.over ≡ self.old.over) × (self.new.inner.trail.items ≡ self.old.inner.trail.items) }
         ensures heard { link_heard_put self.new.from ≡ link_heard_put self.old.from }
         ensures handed { self.new.handed ≡ self.old.handed }
+        ensures cut { self.new.cut ≡ self.old.cut }
     {
         self.inner.hear(stored);
     }
@@ -227,6 +234,7 @@ impl<S: Service, P: Place<S>, O: Sink> Seat<S, P, O> {
         ensures same { (self.new.over ≡ self.old.over) × (self.new.inner.trail.items ≡ self.old.inner.trail.items) }
         ensures heard { link_heard_put self.new.from ≡ link_heard_put self.old.from }
         ensures handed { self.new.handed ≡ self.old.handed }
+        ensures cut { self.new.cut ≡ self.old.cut }
     {
         self.inner.look()
     }

@@ -45,6 +45,7 @@ impl<S: Service, P: Place<S>, O: Sink> Seat<S, P, O> {
         ensures ended { has_end self.old.inner.trail.items ≡ true → (result ≡ Turn.Over) × (self.new.inner.trail.items ≡ self.old.inner.trail.items) }
         ensures heard { link_heard_put self.new.from ≡ link_heard_put self.old.from }
         ensures handed { self.new.handed ≡ self.old.handed }
+        ensures cut { (self.old.over ≡ true → self.new.cut ≡ self.old.cut) × (has_end self.old.inner.trail.items ≡ true → self.new.cut ≡ self.old.cut) }
     {
         if !self.goes_on() {
             return Turn::Over;
@@ -74,6 +75,7 @@ impl<S: Service, P: Place<S>, O: Sink> Seat<S, P, O> {
         ensures ended { has_end self.old.inner.trail.items ≡ true → (result ≡ Turn.Over) × (self.new.inner.trail.items ≡ self.old.inner.trail.items) }
         ensures heard { link_heard_put self.new.from ≡ link_heard_put self.old.from }
         ensures handed { self.new.handed ≡ self.old.handed }
+        ensures cut { (self.old.over ≡ true → self.new.cut ≡ self.old.cut) × (has_end self.old.inner.trail.items ≡ true → self.new.cut ≡ self.old.cut) }
     {
         if !self.goes_on() {
             return Turn::Over;
@@ -100,6 +102,7 @@ impl<S: Service, P: Place<S>, O: Sink> Seat<S, P, O> {
         ensures ended { has_end self.old.inner.trail.items ≡ true → (result ≡ Turn.Over) × (self.new.inner.trail.items ≡ self.old.inner.trail.items) }
         ensures heard { link_heard_put self.new.from ≡ link_heard_put self.old.from }
         ensures handed { self.new.handed ≡ self.old.handed }
+        ensures cut { (self.old.over ≡ true → self.new.cut ≡ self.old.cut) × (has_end self.old.inner.trail.items ≡ true → self.new.cut ≡ self.old.cut) }
     {
         if !self.goes_on() {
             return Turn::Over;
@@ -131,6 +134,7 @@ impl<S: Service, P: Place<S>, O: Sink> Seat<S, P, O> {
         ensures ended { has_end self.old.inner.trail.items ≡ true → (result ≡ Turn.Over) × (self.new.inner.trail.items ≡ self.old.inner.trail.items) }
         ensures heard { link_heard_put self.new.from ≡ link_heard_put self.old.from }
         ensures handed { self.new.handed ≡ self.old.handed }
+        ensures cut { (self.old.over ≡ true → self.new.cut ≡ self.old.cut) × (has_end self.old.inner.trail.items ≡ true → self.new.cut ≡ self.old.cut) }
     {
         if !self.goes_on() {
             return Turn::Over;
@@ -157,6 +161,7 @@ impl<S: Service, P: Place<S>, O: Sink> Seat<S, P, O> {
         ensures ended { has_end self.old.inner.trail.items ≡ true → (result ≡ Turn.Over) × (self.new.inner.trail.items ≡ self.old.inner.trail.items) }
         ensures heard { link_heard_put self.new.from ≡ link_heard_put self.old.from }
         ensures handed { self.new.handed ≡ self.old.handed }
+        ensures cut { (self.old.over ≡ true → self.new.cut ≡ self.old.cut) × (has_end self.old.inner.trail.items ≡ true → self.new.cut ≡ self.old.cut) }
     {
         if !self.goes_on() {
             return Turn::Over;

@@ -9,9 +9,9 @@ ghost use Rattle.log_lane.specs.Lane.{lane_taken, lane_raised};
 ghost use Rattle.group_links.specs.Link.{in_link, out_link};
 ghost use Rattle.node_ends.specs.Intakes.{Reads, IsDone, IsCutOff};
 ghost use Rattle.node_ends.specs.Outlets.{Writes};
-ghost use Rattle.node_endings.specs.Loops.{gave_up, loses, EndsByForm};
+ghost use Rattle.node_endings.specs.Loops.{gave_up, loses};
 ghost use Rattle.node_loops.specs.Rounds.{RoundsOf};
-ghost use Rattle.node_threads.specs.Works.{EndsWhole, MayWork, WorkMade};
+ghost use Rattle.node_threads.specs.Works.{MayWork, ReadMade, WorkMade, WriteMade};
 
 use check_worker::worker::CheckWorker;
 use clock_gate::clock::Clock;
@@ -70,12 +70,7 @@ fn read_and_step<
     intake: &mut Intake,
     clock: &mut K,
 ) -> InEnds
-    ensures link { in_link intake.new.link ≡ in_link intake.old.link }
-    ensures reads { Reads (I.left input.old) (I.left input.new) (loses result.received) intake.old intake.new }
-    ensures whole { EndsWhole result.received (I.left input.new) intake.new }
-    ensures form { EndsByForm result.received (I.left input.new) intake.new }
-    ensures cause { result.received ≡ LoopEnd.Failed → Rose (I.faults input.old) (I.faults input.new) }
-    ensures later { I.faults input.old ≤ I.faults input.new }
+    ensures made { ReadMade (I.left input.old) (I.left input.new) (I.faults input.old) (I.faults input.new) result.received intake.old intake.new }
     ensures delivered { gave_up result.delivered ≡ false }
 {
     let (received, delivered) = join_mut(
@@ -145,10 +140,7 @@ fn send_and_work<
     checker: &mut CheckWorker,
 ) -> OutEnds
     requires work { MayWork D.told D.cells worker.old.faulty worker.old.store }
-    ensures link { out_link outlet.new.link ≡ out_link outlet.old.link }
-    ensures wrote { Writes (W.written output.old) (W.written output.new) (not (gave_up result.sent)) outlet.old outlet.new }
-    ensures cause { result.sent ≡ LoopEnd.Failed → Rose (W.faults output.old) (W.faults output.new) }
-    ensures later { W.faults output.old ≤ W.faults output.new }
+    ensures written { WriteMade (W.written output.old) (W.written output.new) (W.faults output.old) (W.faults output.new) result.sent outlet.old outlet.new }
     ensures made { WorkMade D.faults H.restored result.work.logged worker.new.faulty (lane_taken worker.new.lane) (lane_raised worker.new.lane) worker.old.store worker.new.store }
     ensures rounds { RoundsOf D.told D.remembers D.cells D.moment D.left_since E.stops S.meaning P.opening H.restored worker.new.faulty (lane_taken worker.old.lane) (lane_taken worker.new.lane) worker.old.store worker.new.store }
     ensures checked { result.work.checked ≡ LoopEnd.Failed → ⊥ }
@@ -163,8 +155,74 @@ fn send_and_work<
     OutEnds { sent, work }
 }
 
+/// Runs all five loops until they have ended: those at the input in one thread, the others in this one.
+fn join_all<
+    S: Service + Send,
+    P: Place<S> + Send,
+    O: Sink + Send,
+    I: Source + Send,
+    K: Clock + Send,
+    W: Sink + Send,
+    D: Disk,
+    E: Stops,
+    H: Home,
+    G: Gate + Sync,
+    R: Threads + Wait + Sync,
+>(
+    rt: &R,
+    cell: &NodeCell<S, P, O>,
+    gate: &G,
+    member: &MemberId,
+    quiet: &AtomicBool,
+    input: &mut I,
+    intake: &mut Intake,
+    clock: &mut K,
+    output: &mut W,
+    outlet: &mut Outlet,
+    worker: &mut LogWorker<D, H>,
+    checker: &mut CheckWorker,
+) -> Ends
+    requires work { MayWork D.told D.cells worker.old.faulty worker.old.store }
+    ensures read { ReadMade (I.left input.old) (I.left input.new) (I.faults input.old) (I.faults input.new) result.received intake.old intake.new }
+    ensures delivered { gave_up result.delivered ≡ false }
+    ensures written { WriteMade (W.written output.old) (W.written output.new) (W.faults output.old) (W.faults output.new) result.sent outlet.old outlet.new }
+    ensures made { WorkMade D.faults H.restored result.logged worker.new.faulty (lane_taken worker.new.lane) (lane_raised worker.new.lane) worker.old.store worker.new.store }
+    ensures rounds { RoundsOf D.told D.remembers D.cells D.moment D.left_since E.stops S.meaning P.opening H.restored worker.new.faulty (lane_taken worker.old.lane) (lane_taken worker.new.lane) worker.old.store worker.new.store }
+    ensures checked { result.checked ≡ LoopEnd.Failed → ⊥ }
+{
+    let (came, left) = join_mut(
+        rt,
+        &mut || -> InEnds
+            requires { IsSend S.row × (IsSend P.row × (IsSend O.row × IsSend I.row)) }
+        {
+            read_and_step::<S, P, O, I, K, G, R>(
+                rt, cell, gate, member, quiet, input, intake, clock,
+            )
+        },
+        &mut || -> OutEnds
+            requires { IsSend S.row × (IsSend P.row × (IsSend O.row × (IsSend W.row × MayWork D.told D.cells worker.now.faulty worker.now.store))) }
+        {
+            send_and_work::<S, P, O, W, D, E, H, G, R>(
+                rt, cell, gate, member, quiet, output, outlet, worker, checker,
+            )
+        },
+    );
+    let InEnds {
+        received,
+        delivered,
+    } = came;
+    let OutEnds { sent, work } = left;
+    let WorkEnds { logged, checked } = work;
+    Ends {
+        received,
+        delivered,
+        sent,
+        logged,
+        checked,
+    }
+}
+
 /// Runs the five loops of a node, each in a thread, until all have ended.
-#[tactic(auto, using(crate::proofs::Ends::made_rose, crate::proofs::Ends::made_stored, crate::proofs::Ends::made_failed, crate::proofs::Ends::made_later))]
 pub fn run_loops<
     S: Service + Send,
     P: Place<S> + Send,
@@ -210,34 +268,7 @@ pub fn run_loops<
     ensures checked { result.checked ≡ LoopEnd.Failed → ⊥ }
     ensures later { (I.faults input.old ≤ I.faults input.new) × ((W.faults output.old ≤ W.faults output.new) × NoneFell D.faults worker.old.store.disks worker.new.store.disks) }
 {
-    let (came, left) = join_mut(
-        rt,
-        &mut || -> InEnds
-            requires { IsSend S.row × (IsSend P.row × (IsSend O.row × IsSend I.row)) }
-        {
-            read_and_step::<S, P, O, I, K, G, R>(
-                rt, cell, gate, member, quiet, input, intake, clock,
-            )
-        },
-        &mut || -> OutEnds
-            requires { IsSend S.row × (IsSend P.row × (IsSend O.row × (IsSend W.row × MayWork D.told D.cells worker.now.faulty worker.now.store))) }
-        {
-            send_and_work::<S, P, O, W, D, E, H, G, R>(
-                rt, cell, gate, member, quiet, output, outlet, worker, checker,
-            )
-        },
-    );
-    let InEnds {
-        received,
-        delivered,
-    } = came;
-    let OutEnds { sent, work } = left;
-    let WorkEnds { logged, checked } = work;
-    Ends {
-        received,
-        delivered,
-        sent,
-        logged,
-        checked,
-    }
+    join_all::<S, P, O, I, K, W, D, E, H, G, R>(
+        rt, cell, gate, member, quiet, input, intake, clock, output, outlet, worker, checker,
+    )
 }

@@ -48,19 +48,19 @@ up_to_more place more (Marked m) low up = omega (arith, low, up)
 up_to_more place more _ low up = tt
 
 -- each mark is made before its place's successor is
-up_to_last : (view : View) (entries : List LogEntry) → AreRanged view entries → (e : LogEntry) → Among e entries → IsMarkUpTo (last_made entries) e
-up_to_last view entries ranged (Marked k) there =
+up_to_last : (views : List View) (entries : List LogEntry) → AreRanged views entries → (e : LogEntry) → Among e entries → IsMarkUpTo (last_made entries) e
+up_to_last views entries ranged (Marked k) there =
     let s : Stands (Marked k) entries = stands (Marked k) entries there in
-    let low : k.place < last_made s.before + 1 = ranged s.before (Marked k) s.after s.split in
+    let low : k.place < last_made s.before + 1 = (ranged s.before (Marked k) s.after s.split).within in
     let most : last_made s.before ≤ last_made (s.before ++ Marked k ∷ s.after) = HasReached-more s.before (Marked k ∷ s.after) (last_made s.before) (omega arith) in
     let same : last_made entries ≡ last_made (s.before ++ Marked k ∷ s.after) = ap last_made s.split in
     omega (arith, low, most, same)
-up_to_last view entries ranged _ there = tt
+up_to_last views entries ranged _ there = tt
 
 -- so the marks of a sound book are of places up to the last that it has
-pub marks_reached : (secret : List ℕ) (stated : List Statement) (view : View) (entries : List LogEntry) → IsSoundBook secret stated view entries
+pub marks_reached : (secret : List ℕ) (stated : List Statement) (views : List View) (entries : List LogEntry) → IsSoundBook secret stated views entries
     → Each (IsMarkUpTo (last_made entries)) entries
-marks_reached secret stated view entries book = each_there (IsMarkUpTo (last_made entries)) entries (up_to_last view entries book.ranged)
+marks_reached secret stated views entries book = each_there (IsMarkUpTo (last_made entries)) entries (up_to_last views entries book.ranged)
 
 -- ---- marks that rise
 

@@ -819,10 +819,10 @@ from-opened sources m secret id view period =
     record { arrivals = tt; stops = tt; syncs = tt; decisions = tt; fetch = tt; waiting = tt; book = from-opening sources (Opened (record { member = id; period = period; view = view })) tt; marks = (tt, tt) }
 
 -- a node that goes on after a crash over a checkpoint has kept nothing but the cut of what was written
-pub from-resumed : {S : Type 0} (sources : List (List ℕ)) (m : Meaning S) (secret : List ℕ) (id : ℕ) (stated : List Statement) (view : View) (period place : ℕ) (batches : List Batch)
-    (checkpoint : Option OwnSnapshot) (entries : List LogEntry) → IsSoundBook secret stated view entries → last_made entries ≤ length batches → FromBook sources (cut_at place entries)
+pub from-resumed : {S : Type 0} (sources : List (List ℕ)) (m : Meaning S) (secret : List ℕ) (id : ℕ) (stated : List Statement) (view : View) (views : List View) (period place : ℕ) (batches : List Batch)
+    (checkpoint : Option OwnSnapshot) (entries : List LogEntry) → IsSoundBook secret stated views entries → last_made entries ≤ length batches → FromBook sources (cut_at place entries)
     → FromSources sources (resumed_node m secret id view period place batches checkpoint entries)
-from-resumed {S = S} sources m secret id stated view period place batches checkpoint entries sound reached book =
+from-resumed {S = S} sources m secret id stated view views period place batches checkpoint entries sound reached book =
     let at : (state m view (take (last_made entries) batches)).place ≡ last_made entries = state_place m view (take (last_made entries) batches) ∙ length-take-le (last_made entries) batches reached in
     record {
       arrivals = tt;
@@ -832,7 +832,7 @@ from-resumed {S = S} sources m secret id stated view period place batches checkp
       fetch = tt;
       waiting = tt;
       book = book;
-      marks = subst (λ (k : ℕ). Each (IsMarkUpTo k) (cut_at place entries)) (sym at) (cut_each (IsMarkUpTo (last_made entries)) place entries (marks_reached secret stated view entries sound));
+      marks = subst (λ (k : ℕ). Each (IsMarkUpTo k) (cut_at place entries)) (sym at) (cut_each (IsMarkUpTo (last_made entries)) place entries (marks_reached secret stated views entries sound));
     }
 
 -- ---- different keys have different sources
@@ -1061,15 +1061,15 @@ promised_differs before entry other k last there is same = cc
 
 -- places are decided in turn
 
-decided_differs : (secret : List ℕ) (stated : List Statement) (view : View) (before : List LogEntry) (entry other : LogEntry) (after : List LogEntry) (k : ℕ)
-    → IsSoundBook secret stated view (before ++ entry ∷ after) → Among other before → place_decided other ≡ Some k → place_decided entry ≡ Some k → ⊥
-decided_differs secret stated view before (Decided d) (Decided o) after k book there is same =
-    let turn = in_turn secret stated view before d after book in
+decided_differs : (secret : List ℕ) (stated : List Statement) (views : List View) (before : List LogEntry) (entry other : LogEntry) (after : List LogEntry) (k : ℕ)
+    → IsSoundBook secret stated views (before ++ entry ∷ after) → Among other before → place_decided other ≡ Some k → place_decided entry ≡ Some k → ⊥
+decided_differs secret stated views before (Decided d) (Decided o) after k book there is same =
+    let turn = in_turn secret stated views before d after book in
     let most = made_most before o.slot.place (record { entry = Decided o; there = there; made = refl }) in
     let equal = some_equal o.slot.place d.slot.place (is ∙ sym same) in
     omega (arith, turn, most, equal)
-decided_differs secret stated view before (Decided d) other after k book there is same = cc
-decided_differs secret stated view before entry other after k book there is same = cc
+decided_differs secret stated views before (Decided d) other after k book there is same = cc
+decided_differs secret stated views before entry other after k book there is same = cc
 
 -- marks rise, and so do the places that are installed
 
@@ -1091,9 +1091,9 @@ installed_differs before entry other k may there is same = cc
 
 -- ---- a book has few entries
 
-few_behind : (secret : List ℕ) (stated : List Statement) (view : View) (sources : List (List ℕ)) (e : LogEntry) (es : List LogEntry) → IsSoundBook secret stated view (e ∷ es) → FromBook sources (e ∷ es)
+few_behind : (secret : List ℕ) (stated : List Statement) (views : List View) (sources : List (List ℕ)) (e : LogEntry) (es : List LogEntry) → IsSoundBook secret stated views (e ∷ es) → FromBook sources (e ∷ es)
     → length es ≤ 7 * length sources
-few_behind secret stated view sources e es book from =
+few_behind secret stated views sources e es book from =
     let all = all_kinds sources es from.behind in
     let wrote = few_kind sources slot_proposed slot_written e es
     (λ before entry after split other there k is same. written_differs before entry other k (book.lawful before entry after split) there is same) (written_gives sources) from.behind in
@@ -1105,14 +1105,14 @@ few_behind secret stated view sources e es book from =
     (λ before entry after split other there k is same. synced_differs before entry other k (book.tidy before entry after split) there is same) (synced_gives sources) from.behind in
     let decided = few_kind sources place_shown place_decided e es
     (λ before entry after split other there k is same.
-    decided_differs secret stated view before entry other after k (subst (λ (xs : List LogEntry). IsSoundBook secret stated view xs) split book) there is same) (decided_gives sources) from.behind in
+    decided_differs secret stated views before entry other after k (subst (λ (xs : List LogEntry). IsSoundBook secret stated views xs) split book) there is same) (decided_gives sources) from.behind in
     let marked = few_kind sources place_shown place_marked e es
     (λ before entry after split other there k is same. marked_differs before entry other k (from.rising before entry after split) there is same) (marked_gives sources) from.behind in
     let installed = few_kind sources place_joined place_installed e es
     (λ before entry after split other there k is same. installed_differs before entry other k (book.lawful before entry after split) there is same) (installed_gives sources) from.behind in
     omega (arith, all, wrote, accepted, promised, synced, decided, marked, installed)
 
-pub few_entries : (secret : List ℕ) (stated : List Statement) (view : View) (sources : List (List ℕ)) (es : List LogEntry) → IsSoundBook secret stated view es → FromBook sources es
+pub few_entries : (secret : List ℕ) (stated : List Statement) (views : List View) (sources : List (List ℕ)) (es : List LogEntry) → IsSoundBook secret stated views es → FromBook sources es
     → length es ≤ 7 * length sources + 1
-few_entries secret stated view sources [] book from = omega arith
-few_entries secret stated view sources (e ∷ es) book from = let few = few_behind secret stated view sources e es book from in omega (arith, few)
+few_entries secret stated views sources [] book from = omega arith
+few_entries secret stated views sources (e ∷ es) book from = let few = few_behind secret stated views sources e es book from in omega (arith, few)

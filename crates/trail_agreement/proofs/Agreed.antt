@@ -15,7 +15,7 @@ use Rattle.vote_book.specs.declared.entry.LogEntry.TheVariants.{Opened, Wrote, A
 use Rattle.vote_book.proofs.Tested.{last_has}
 use Rattle.book_laws.proofs.CutAgain.{more_made}
 use Rattle.replica_rules.specs.Seals.{digest_of}
-use Rattle.agreement_laws.specs.Certificates.{IsBacked, IsTaken}
+use Rattle.agreement_laws.specs.Certificates.{IsTaken}
 use Rattle.agreement_laws.specs.Law.{FewFaulty, Witnessed}
 use Rattle.agreement_laws.specs.Lists.{Certified}
 use Rattle.agreement_laws.specs.Statements as says
@@ -24,7 +24,9 @@ use Rattle.agreement_laws.proofs.Groups.{is_one, own, signed_listed, signers_len
 use Rattle.agreement_laws.proofs.Lists.{each_among, split_at}
 use Rattle.agreement_laws.proofs.Regencies.{decided_once}
 use Rattle.node_laws.specs.Restored.{IsSoundBook}
-use Rattle.node_laws.proofs.CertifiedBooks.{certified_book}
+use Rattle.node_laws.proofs.OneView.{only_known}
+use Rattle.node_laws.specs.Sound.{IsBackedIn}
+use Rattle.world_laws.proofs.OneViews.{certified_only}
 use Rattle.node_laws.proofs.Reopened.{in_turn, latest_is}
 use Rattle.node_laws.proofs.Restored.{front_of}
 use Rattle.node_laws.proofs.Votes.{place_of_some}
@@ -36,18 +38,18 @@ use Rattle.trail_agreement.proofs.Witnesses.{AreSound, diary_in, some_member}
 
 -- ---- the last place
 
-has_last : (secret : List ℕ) (stated : List Statement) (view : View) (es : List LogEntry) → IsSoundBook secret stated view es → 0 < last_made es → HasMade es (last_made es)
-has_last secret stated view es book some = last_has es (last_made es) (latest_is secret stated view es book ∙ place_of_some (last_made es) some)
+has_last : (secret : List ℕ) (stated : List Statement) (views : List View) (es : List LogEntry) → IsSoundBook secret stated views es → 0 < last_made es → HasMade es (last_made es)
+has_last secret stated views es book some = last_has es (last_made es) (latest_is secret stated views es book ∙ place_of_some (last_made es) some)
 
 -- the place before one that is decided
-before_decided : (secret : List ℕ) (stated : List Statement) (view : View) (es : List LogEntry) (d : Decision) (place : ℕ) → IsSoundBook secret stated view es → Among (Decided d) es → d.slot.place ≡ suc place → 0 < place
+before_decided : (secret : List ℕ) (stated : List Statement) (views : List View) (es : List LogEntry) (d : Decision) (place : ℕ) → IsSoundBook secret stated views es → Among (Decided d) es → d.slot.place ≡ suc place → 0 < place
     → HasMade es place
-before_decided secret stated view es d place book there at some =
+before_decided secret stated views es d place book there at some =
     let s = split_at es (Decided d) there in
-    let whole : IsSoundBook secret stated view (s.before ++ Decided d ∷ s.after) = subst (λ (xs : List LogEntry). IsSoundBook secret stated view xs) s.is book in
-    let turn : d.slot.place ≡ last_made s.before + 1 = in_turn secret stated view s.before d s.after whole in
+    let whole : IsSoundBook secret stated views (s.before ++ Decided d ∷ s.after) = subst (λ (xs : List LogEntry). IsSoundBook secret stated views xs) s.is book in
+    let turn : d.slot.place ≡ last_made s.before + 1 = in_turn secret stated views s.before d s.after whole in
     let last : last_made s.before ≡ place = omega (arith, turn, at) in
-    let made : HasMade s.before (last_made s.before) = has_last secret stated view s.before (front_of secret stated view s.before (Decided d ∷ s.after) whole) (omega (arith, last, some)) in
+    let made : HasMade s.before (last_made s.before) = has_last secret stated views s.before (front_of secret stated views s.before (Decided d ∷ s.after) whole) (omega (arith, last, some)) in
     subst (λ (xs : List LogEntry). HasMade xs place) (sym s.is) (more_made place s.before (Decided d ∷ s.after) (subst (λ (k : ℕ). HasMade s.before k) last made))
 
 -- ---- books of several members
@@ -123,8 +125,8 @@ module _ (faulty : ℕ → Bool) (secret : List ℕ) (view : View) (trails : Lis
   entry_decided t at member (Installed i) place there made =
       let sound = are.sound t at member in
       let s = split_at (book t) (Installed i) there in
-      let of_view = (sound.ranged s.before (Installed i) s.after s.is).of_view in
-      let taken : IsTaken secret view stated i = each_among (IsBacked secret digest_of view stated) (book t) (Installed i) sound.backed there of_view in
+      let of_view = only_known view i.view (sound.ranged s.before (Installed i) s.after s.is).within.of_view in
+      let taken : IsTaken secret view stated i = each_among (IsBackedIn secret (view ∷ []) stated) (book t) (Installed i) sound.backed there view (inl refl) of_view in
       subst (λ (k : ℕ). Decider trails book k) (one_place i.place place made) (taken_decided i taken)
     where
       one_place : (a b : ℕ) → Some a ≡ Some b → a ≡ b
@@ -142,7 +144,7 @@ module _ (faulty : ℕ → Bool) (secret : List ℕ) (view : View) (trails : Lis
   -- the place before it, too
   one_before : (place : ℕ) → 0 < place → Decider trails book (suc place) → Decider trails book place
   one_before place some d =
-      made_decided d.trail d.there d.member place (before_decided secret stated view (book d.trail) d.decision place (are.sound d.trail d.there d.member) d.decided d.place_is some)
+      made_decided d.trail d.there d.member place (before_decided secret stated (view ∷ []) (book d.trail) d.decision place (are.sound d.trail d.there d.member) d.decided d.place_is some)
 
   -- and all before
   all_before : (more place : ℕ) → 0 < place → Decider trails book (more + place) → Decider trails book place
@@ -153,7 +155,7 @@ module _ (faulty : ℕ → Bool) (secret : List ℕ) (view : View) (trails : Lis
 
   pub reached_decided : (t : Recorded) → Among t trails → is_client t ≡ false → (place : ℕ) → 0 < place → place ≤ last_made (book t) → Decider trails book place
   reached_decided t at member place some low =
-      let last : HasMade (book t) (last_made (book t)) = has_last secret stated view (book t) (are.sound t at member) (omega (arith, some, low)) in
+      let last : HasMade (book t) (last_made (book t)) = has_last secret stated (view ∷ []) (book t) (are.sound t at member) (omega (arith, some, low)) in
       let sum : last_made (book t) ≡ (last_made (book t) - place) + place = omega (arith, low) in
       all_before (last_made (book t) - place) place some (subst (λ (k : ℕ). Decider trails book k) sum (made_decided t at member (last_made (book t)) last))
 
@@ -166,7 +168,7 @@ module _ (faulty : ℕ → Bool) (secret : List ℕ) (view : View) (trails : Lis
       → d.slot.place ≡ e.slot.place → digest_of d.batch ≡ digest_of e.batch
   one_digest t u at au mt mu d e td ue same =
       let stated : List Statement = all_stated secret trails in
-      let cd : Certified secret stated view d.slot.place (digest_of d.batch) = certified_book secret stated view (book t) d (are.sound t at mt) td in
+      let cd : Certified secret stated view d.slot.place (digest_of d.batch) = certified_only secret stated view (book t) d (are.sound t at mt) td in
       let ce : Certified secret stated view d.slot.place (digest_of e.batch) =
-      subst (λ (k : ℕ). Certified secret stated view k (digest_of e.batch)) (sym same) (certified_book secret stated view (book u) e (are.sound u au mu) ue) in
+      subst (λ (k : ℕ). Certified secret stated view k (digest_of e.batch)) (sym same) (certified_only secret stated view (book u) e (are.sound u au mu) ue) in
       decided_once secret digest_of view faulty (diary_in book trails) stated known d.slot.place cd.regency ce.regency (digest_of d.batch) (digest_of e.batch) cd.accepts ce.accepts cd.decision ce.decision

@@ -12,7 +12,7 @@ use Rattle.vote_book.specs.declared.entry.Opening.{Opening}
 use Rattle.vote_book.specs.declared.entry.LogEntry.{LogEntry}
 use Rattle.vote_book.specs.declared.entry.LogEntry.TheVariants.{Opened, Wrote, Accepted, Promised, Synced, Decided, Installed, Marked}
 use Rattle.book_laws.specs.BookCuts.{InstallUpTo}
-use Rattle.replica_rules.specs.Replicas.{empty}
+use Rattle.replica_rules.specs.Replicas.{empty, views_after}
 use Rattle.node_rules.specs.Nodes.{Node, recording, regency_of}
 use Rattle.node_rules.specs.Steps.{Outset, outset}
 use Rattle.node_rules.specs.Reopening.{damage_at, damage_of, damaged, entries_in, is_opening, may_restore, reopened, reopened_from, rests, stopped}
@@ -132,6 +132,7 @@ module _ {S : Type 0} (m : Meaning S) (stated : List Statement) (secret : List �
   right-begun : (o : Opening) (restored firm : ℕ) → IsSound stated view (begun o restored firm) → IsRight m stated secret view id (begun o restored firm)
   right-begun o restored firm sound = record {
     sound = sound;
+    views = refl;
     rests = record { held = tt; waits = tt; lines = tt };
     fit = fit-begun o restored firm;
     parts = tt;
@@ -145,17 +146,18 @@ module _ {S : Type 0} (m : Meaning S) (stated : List Statement) (secret : List �
   unfolding reopened
   right-new =
       let o : Opening = record { member = id; period = period; view = view } in
-      right-begun o 0 0 (sound_begun m stated secret id view period o)
+      right-begun o 0 0 (sound_begun m stated secret id view period o viewed)
 
-  book_begun : (o : Opening) → IsSoundBook secret stated view (Opened o ∷ [])
-  book_begun o = book_sound stated view (recording (stopped (outset m secret id view period)) (Opened o)) (sound_begun m stated secret id view period o) refl
+  book_begun : (o : Opening) → IsSoundBook secret stated (view ∷ []) (Opened o ∷ [])
+  book_begun o = book_sound stated view (recording (stopped (outset m secret id view period)) (Opened o)) (sound_begun m stated secret id view period o viewed) refl
 
   no_installation : (o : Opening) → InstallUpTo 0 (Opened o ∷ [])
   no_installation o i (inl is) = absurd (cc)
   no_installation o i (inr none) = absurd none
 
   sound_opening : (o : Opening) → IsSound stated view (reopened m (outset m secret id view period) (Opened o ∷ []))
-  sound_opening o = sound_reopened m secret id stated view period (Opened o ∷ []) (book_begun o) (no_installation o)
+  unfolding views_after
+  sound_opening o = sound_reopened m secret id stated view period (Opened o ∷ []) viewed (book_begun o) (no_installation o)
 
   right-opening : (o : Opening) → IsRight m stated secret view id (reopened m (outset m secret id view period) (Opened o ∷ []))
   unfolding reopened

@@ -82,10 +82,10 @@ events_may secret stated (e ∷ events) all = (one_may secret stated e events al
 
 -- ---- decided places
 
-decided_some : (secret : List ℕ) (stated : List Statement) (view : View) (es : List LogEntry) (d : Decision) → IsSoundBook secret stated view es → Among (Decided d) es → 0 < d.slot.place
-decided_some secret stated view es d book there =
+decided_some : (secret : List ℕ) (stated : List Statement) (views : List View) (es : List LogEntry) (d : Decision) → IsSoundBook secret stated views es → Among (Decided d) es → 0 < d.slot.place
+decided_some secret stated views es d book there =
     let s = split_at es (Decided d) there in
-    let turn = in_turn secret stated view s.before d s.after (subst (λ (xs : List LogEntry). IsSoundBook secret stated view xs) s.is book) in
+    let turn = in_turn secret stated views s.before d s.after (subst (λ (xs : List LogEntry). IsSoundBook secret stated views xs) s.is book) in
     omega (arith, turn)
 
 -- ---- over a service
@@ -139,10 +139,11 @@ module _ {S : Type 0} (m : Meaning S) (brief : IsBrief m) (faulty : ℕ → Bool
   right_last : (t : Recorded) → Among t trails → is_client t ≡ false → IsRight m stated secret view t.opening.member (last_node m t)
   right_last t there member = right-replay m brief stated secret view viewed t.opening.member (first_node m t) t.events (right_first t there member) (may_arrive t there)
 
-  sound_book : (t : Recorded) → Among t trails → is_client t ≡ false → IsSoundBook secret stated view (book t)
+  sound_book : (t : Recorded) → Among t trails → is_client t ≡ false → IsSoundBook secret stated (view ∷ []) (book t)
   sound_book t there member =
       let right = right_last t there member in
-      subst (λ (k : List ℕ). IsSoundBook k stated view (book t)) right.fit.shared (book_sound stated view (last_node m t) right.sound right.opening)
+      subst (λ (k : List ℕ). IsSoundBook k stated (view ∷ []) (book t)) right.fit.shared
+      (subst (λ (vs : List View). IsSoundBook (last_node m t).secret stated vs (book t)) right.views (book_sound stated view (last_node m t) right.sound right.opening))
 
   are_sound : AreSound secret view trails book
   are_sound =
@@ -172,7 +173,7 @@ module _ {S : Type 0} (m : Meaning S) (brief : IsBrief m) (faulty : ℕ → Bool
   -- each decision is the list's
   decided_listed : (t : Recorded) → Among t trails → is_client t ≡ false → (d : Decision) → Among (Decided d) (book t) → batch_at all.list d.slot.place ≡ Some d.batch
   decided_listed t there member d decided =
-      let some : 0 < d.slot.place = decided_some secret stated view (book t) d (sound_book t there member) decided in
+      let some : 0 < d.slot.place = decided_some secret stated (view ∷ []) (book t) d (sound_book t there member) decided in
       let within : d.slot.place ≤ last_made (book t) = made_within (Decided d) (book t) d.slot.place decided refl in
       let most : last_made (book t) ≤ greatest.place = greatest.most t there member in
       let at = all.each d.slot.place some (omega (arith, within, most)) in

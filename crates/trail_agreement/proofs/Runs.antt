@@ -1,4 +1,5 @@
 -- What holds of a member's node throughout its trail.
+use Rattle.world_laws.proofs.Views.{views-step}
 use Rattle.std.proofs.Common.{◌≡◌, ℕ, true, nat_le, List, [], ◌∷◌, ◌++◌, refl, ap, sym, ◌∙◌, subst, append-nil, append_assoc}
 use Rattle.smart_base.specs.Lists.{Each}
 use Rattle.smart_base.specs.Views.{View, is_view}
@@ -29,6 +30,8 @@ use Rattle.trail_agreement.proofs.Marks.{MarksDecided, marks-step}
 -- what holds of a node, by what has been stated, in a group of a secret and a view
 pub record IsRight {S : Type 0} (m : Meaning S) (stated : List Statement) (secret : List ℕ) (view : View) (id : ℕ) (n : Node S) : Type 0 where
   pub sound : IsSound stated view n
+  -- INTERIM(views): it knows one view
+  pub views : n.replica.views ≡ view ∷ []
   pub rests : NodeRests n
   pub fit : FitNode m secret n
   pub parts : ArePartsBytes n.fetch
@@ -73,7 +76,7 @@ sound-left : {S : Type 0} (stated : List Statement) (view : View) (n : Node S) �
 sound-left stated view n is =
     aside stated view n n.firm (after_first n.firm n.held) n.proposed n.stop_made n.sync_made n.impatient n.behind is
     (each_first (IsHeld n.secret n.id stated n.entries) n.firm n.held is.held)
-    (record { few = is.late.few; each = each_first (λ (h : Held). Each (Late stated view n) (statements n.secret h.message)) n.firm n.held is.late.each })
+    (record { few = is.late.few; each = each_first (λ (h : Held). Each (Late stated n) (statements n.secret h.message)) n.firm n.held is.late.each })
 
 told_named : {S : Type 0} (n : Node S) (event : NodeEvent) → (told_firm n event).id ≡ n.id
 told_named n (Arrive bytes) = refl
@@ -93,7 +96,8 @@ module _ {S : Type 0} (m : Meaning S) (brief : IsBrief m) (stated : List Stateme
   right-step n event is was bytes =
       let onward = onward-step m n event is.rests in
       record {
-        sound = sound_step m stated view n event viewed is.sound (subst (λ (k : List ℕ). IsStatedEvent k stated event) (sym is.fit.shared) was);
+        sound = sound_step m stated view n event is.sound (subst (λ (k : List ℕ). IsStatedEvent k stated event) (sym is.fit.shared) was);
+        views = views-step m n event ∙ is.views;
         rests = onward.rests;
         fit = fit-step secret m brief n event (event-fits event bytes).0 (event-settles m brief n event bytes is.parts) is.fit;
         parts = parts-step m n event (event-fits event bytes).1 is.parts;
@@ -106,6 +110,7 @@ module _ {S : Type 0} (m : Meaning S) (brief : IsBrief m) (stated : List Stateme
   right-left : (n : Node S) → IsRight m stated secret view id n → IsRight m stated secret view id (one_left n)
   right-left n is = record {
     sound = sound-left stated view n is.sound;
+    views = is.views;
     rests = record { held = each_first (HoldsRight n.id n.entries) n.firm n.held is.rests.held; waits = is.rests.waits; lines = is.rests.lines };
     fit = fit-left secret n is.fit;
     parts = is.parts;

@@ -1,6 +1,8 @@
 -- The books of coherent runs witness what has been stated.
+use Rattle.smart_base.proofs.ViewFacts.{each-weaken}
+use Rattle.node_laws.specs.Sound.{IsBackedIn}
 use Rattle.std.proofs.Common.{◌≡◌, inl, inr, ℕ, ◌≤◌, ◌==◌, Bool, true, false, cond, ◌||◌, List, [], ◌∷◌, ◌++◌, refl, ap, sym, ◌∙◌, subst, arith, eqb-true, eq-eqb}
-use Rattle.std.specs.Prelude.{map, if◌then◌else◌}
+use Rattle.std.specs.Prelude.{if◌then◌else◌, map}
 use Rattle.std.specs.List.{list_any}
 use Rattle.smart_base.specs.Lists.{Distinct, Each}
 use Rattle.smart_base.specs.Views.{View, is_member, is_view}
@@ -88,9 +90,9 @@ some_member view member viewed within =
     by true is low = let zero = eqb-true member 0 is in absurd (omega (arith, zero, low))
     by false is low = is
 
--- books of members that are sound, and on which all that was sent rests
+-- books of members that are sound, and on which all that was sent rests. INTERIM(views): one view is in force throughout.
 pub record AreSound (secret : List ℕ) (view : View) (trails : List Recorded) (book : Recorded → List LogEntry) : Type 0 where
-  pub sound : (t : Recorded) → Among t trails → (t.opening.member == 0) ≡ false → IsSoundBook secret (all_stated secret trails) view (book t)
+  pub sound : (t : Recorded) → Among t trails → (t.opening.member == 0) ≡ false → IsSoundBook secret (all_stated secret trails) (view ∷ []) (book t)
   pub rests : (t : Recorded) → Among t trails → (t.opening.member == 0) ≡ false → Each (λ (a : Addressed). RestsOn (book t) a.message) (sends t.events)
 
 pub witnesses : (faulty : ℕ → Bool) (secret : List ℕ) (view : View) (trails : List Recorded) (book : Recorded → List LogEntry) → FewFaulty view faulty → is_view view ≡ true → Distinct (map number_of trails) → Each (MayCome faulty trails secret) trails
@@ -101,7 +103,9 @@ witnesses faulty secret view trails book few viewed once may are =
       lawful = λ member correct. by_trail book (λ (es : List LogEntry). Lawful 0 0 es) member trails none_lawful (λ t there same. (are.sound t there (no_client member correct t same)).lawful);
       backed = λ member correct.
           by_trail book (λ (es : List LogEntry). Each (IsBacked secret digest_of view (all_stated secret trails)) es) member trails tt
-          (λ t there same. (are.sound t there (no_client member correct t same)).backed);
+          (λ t there same.
+          each-weaken (IsBackedIn secret (view ∷ []) (all_stated secret trails)) (IsBacked secret digest_of view (all_stated secret trails)) (λ e is. is view (inl refl)) (book t)
+          (are.sound t there (no_client member correct t same)).backed);
       shown = λ member correct s there who.
           let is = stated_shown faulty secret trails member s book correct.correct may (λ t at same. are.rests t at (no_client member correct t same)) there who in
           subst (λ (es : List LogEntry). IsShown digest_of es s) (sym (diary_of book trails is.0 member once is.1 is.2)) is.3;

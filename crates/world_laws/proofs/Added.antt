@@ -1,5 +1,5 @@
 -- The nodes of a play are those of the first members, and those that lines have added.
-use Rattle.std.proofs.Common.{◌≡◌, ◌⊎◌, ⊎_elim, inl, inr, ℕ, ◌++◌, ◌∙◌, ◌==◌, true, false, List, [], ◌∷◌, refl, ap, sym, subst, Option, Some, None, is_some, take, append-nil, append_assoc, eqb-true, eq-eqb}
+use Rattle.std.proofs.Common.{◌≡◌, ◌≤◌, ◌⊎◌, ⊎_elim, inl, inr, ℕ, ◌++◌, ◌∙◌, ◌==◌, true, false, List, [], ◌∷◌, refl, ap, sym, subst, Option, Some, None, is_some, take, append-nil, append_assoc, eqb-true, eq-eqb}
 use Rattle.std.specs.Prelude.{insert, slice_get}
 use Rattle.std.specs.List.{flat_map, list_any}
 use Rattle.smart_base.specs.Views.{View, is_member}
@@ -17,7 +17,7 @@ use Rattle.world_rules.specs.Secrets.{group_secret}
 use Rattle.world_rules.specs.Clients.{heard}
 use Rattle.world_rules.specs.Premises.{too_many}
 use Rattle.world_rules.specs.Worlds.{adds_node, adds_unless, begun, course_of, declares_faulty, declares_rogue, hearing, Host, host_after, host_crashed, host_index, host_resumed, hosts_below, is_gone, is_halted, is_name, is_rogue, new_host, parts_held, posts, snapshot_in, stepped, World}
-use Rattle.world_rules.specs.Plays.{line_played, rested, world_after}
+use Rattle.world_rules.specs.Plays.{has_member, line_played, rested, world_after}
 use Rattle.world_rules.specs.declared.line.Header.{Header}
 use Rattle.world_rules.specs.declared.line.Line.{Line}
 use Rattle.world_rules.specs.declared.line.Line.TheVariants as lines
@@ -29,9 +29,10 @@ use Rattle.world_laws.specs.Promises.{AreAdded, world_at}
 use Rattle.world_laws.proofs.ChosenKept.{hosts_ids}
 use Rattle.world_laws.proofs.Declared.{is_over}
 use Rattle.world_laws.proofs.Delivering.{named-step}
-use Rattle.world_laws.proofs.Keeps.{after_call, ask_of, asked_by, by-posts-ended, calm-line_played, from_client, from_node, from_script, IsCalm, keeps-sends_all, KeepsCalmLives, node_resumed, signed_by}
+use Rattle.world_laws.proofs.Keeps.{after_call, ask_of, asked_by, by-posts-ended, calm-line_played, from_client, from_node, from_script, IsCalm, keeps-sends_all, keeps-world_after, KeepsAll, KeepsCalmLives, node_resumed, signed_by}
 use Rattle.world_laws.proofs.Meeting.{met-goes_on}
 use Rattle.world_laws.proofs.Names.{any_insert, either_insert, has_position, here_insert, map_insert, named_there, names}
+use Rattle.world_laws.proofs.Past.{world-more}
 use Rattle.world_laws.proofs.Reopens.{from_named}
 use Rattle.world_laws.proofs.Witnessing.{ids-set}
 
@@ -243,3 +244,50 @@ nodes-added {S = S} m g ls k =
       only = λ id has. is.only id (named_there w.hosts id has);
       all = λ goes id name there. has_position (λ (h : Host S). h.node.id) w.hosts id (is.all goes id name there);
     }
+
+-- ---- nodes stay
+
+-- a name stays among those of the hosts
+keeps-there : {S : Type 0} (m : Meaning S) (id : ℕ) → KeepsAll (course_of m) (λ w. IsNamed (names w.hosts) id)
+keeps-there {S = S} m id =
+    record {
+      kept = record {
+        event = λ w i h event up at may is. same w _ (named-stepped m (names w.hosts) w.view w.ending w i h event at (own w)) is;
+        disk = λ w i h up at is. over (names w.hosts) _ (ids-set w.hosts i h (after_call (course_of m) h) at refl) is;
+        crash = λ w i h left up at may is. over (names w.hosts) _ (ids-set w.hosts i h (host_crashed (course_of m) h left) at refl) is;
+        hear = λ w i c x a at has read is. same w _ (named-hearing (names w.hosts) w.view w.ending w i c a (heard w.view c a) (own w)) is;
+        ask = λ w i c op at free few brief is. same w _ (named-posts (names w.hosts) w.view w.ending (asked_by w i c op) (from_client w.view c (ask_of c op)) (own_asked w i c op)) is;
+        again = λ w i c q at waits is. same w _ (named-posts (names w.hosts) w.view w.ending w (from_client w.view c (signed_by c q)) (own w)) is;
+        learn = λ w i j c d at other is. is;
+        inject = λ w x read fine is. same w _ (named-posts (names w.hosts) w.view w.ending w (from_script x) (own w)) is;
+        declare = λ w faulty rogue ending how is. is;
+        same = λ w mark told is. is;
+        meet = λ w texts on is. is;
+      };
+      resume = λ w i h down at is.
+          over (names w.hosts) _ (ids-set w.hosts i h (host_resumed h (node_resumed (course_of m) w h)) at (from_named m group_secret h.node.id w.view w.period (parts_held h))) is;
+      add = λ w i new on new_one is.
+          over (insert (names w.hosts) i new) _ (map_insert (λ (h : Host S). h.node.id) w.hosts i (new_host m w new)) (any_insert (λ k. k == id) (names w.hosts) i new is);
+    }
+  where
+    own : (w : World S) → Named (names w.hosts) w.view w.ending w
+    own w = record { names_are = refl; view_is = refl; on = λ on. on }
+
+    own_asked : (w : World S) (i : ℕ) (c : Client) (op : List ℕ) → Named (names w.hosts) w.view w.ending (asked_by w i c op)
+    own_asked w i c op = record { names_are = refl; view_is = refl; on = λ on. on }
+
+    over : (ids later : List ℕ) → later ≡ ids → IsNamed ids id → IsNamed later id
+    over ids later are is = subst (λ (ns : List ℕ). IsNamed ns id) (sym are) is
+
+    same : (w v : World S) → Named (names w.hosts) w.view w.ending v → IsNamed (names w.hosts) id → IsNamed (names v.hosts) id
+    same w v named is = over (names w.hosts) (names v.hosts) named.names_are is
+
+-- of two fronts of a script, each number with a node after the shorter has one after the longer
+pub nodes-grow : {S : Type 0} (m : Meaning S) (g : Header) (ls : List Line) (j k : ℕ) → j ≤ k → (id : ℕ) → has_member (world_at m g ls j) id ≡ true → has_member (world_at m g ls k) id ≡ true
+nodes-grow {S = S} m g ls j k le id has =
+    let w : World S = world_at m g ls j in
+    let later = world-more m g ls j k le in
+    subst (λ (v : World S). has_member v id ≡ true) (sym later.1)
+    (let v : World S = world_after (course_of m) w later.0 in
+    has_position (λ (h : Host S). h.node.id) v.hosts id
+    (keeps-world_after (course_of m) (λ (x : World S). IsNamed (names x.hosts) id) (keeps-there m id) w later.0 (named_there w.hosts id has)))

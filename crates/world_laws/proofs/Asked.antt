@@ -196,7 +196,7 @@ unfolding stepped
 asked-stepped {S = S} m w i h event at may shared r is =
     let n : Node S = (step_of m h.node event).node in
     let hr : HostRight w.sent m w.view w.chosen h = each_get (HostRight w.sent m w.view w.chosen) w.hosts i h r.1.right at in
-    let s : IsSound (stated w.sent) w.view n = sound_step m (stated w.sent) w.view h.node event r.1.viewed hr.sound (stated_event w h h.node.secret event hr.shared may) in
+    let s : IsSound (stated w.sent) w.view n = sound_step m (stated w.sent) w.view h.node event hr.sound (stated_event w h h.node.secret event hr.shared may) in
     asked-sends_all h.node.id (view_of n) _ (leaving n.firm n.held)
     (leaving_asked w.rogue w.sent n.id n.firm (stated w.sent) n.entries n.held is.each (subst (λ (k : List ℕ). Each (IsHeld k n.id (stated w.sent) n.entries) n.held) shared s.held))
     (record {

@@ -1,4 +1,5 @@
 -- What a member has sent rests on entries that became firm there.
+use Rattle.replica_rules.specs.Replicas.{views_after}
 use Rattle.store_laws.specs.Restored.{Images}
 use Rattle.store_laws.specs.States.{StoreState}
 use Rattle.smart_base.specs.declared.party.Party.TheVariants as parties
@@ -9,7 +10,8 @@ use Rattle.world_laws.proofs.Snapshots.{IsRestorable}
 use Rattle.world_rules.specs.Stated.{stated}
 use Rattle.world_laws.specs.Sending.{AllGenuine}
 use Rattle.world_laws.proofs.Fitting.{all_genuine}
-use Rattle.world_laws.proofs.Views.{view-step}
+use Rattle.world_laws.proofs.Views.{view-step, views-step}
+use Rattle.world_laws.proofs.OneViews.{book_node, first_there, same_after, view_one}
 use Rattle.world_laws.proofs.Lives.{book_left, Running, Stopped, fits_now, take-from}
 use Rattle.world_laws.proofs.Reopens.{from_held}
 use Rattle.world_laws.proofs.Chosen.{HostRight, ChosenRight}
@@ -17,7 +19,7 @@ use Rattle.world_laws.proofs.ChosenKept.{resumed-right, keeps-both, chosen-kept,
 use Rattle.std.proofs.Common.{◌≡◌, ℕ, zero, suc, ◌+◌, ◌≤◌, ◌++◌, List, [], ◌∷◌, length, refl, ap, ◌∙◌, sym, arith, Option, Some, None, inl, inr, ⊎_elim, subst, take, length-append, append-nil, true, not, drop, false, Err, Ok, Result, append_assoc, ◌<◌}
 use Rattle.std.specs.Prelude.{IfSome, slice_get, slice_set, insert}
 use Rattle.smart_base.specs.Lists.{Each}
-use Rattle.smart_base.specs.Views.{View, present, is_view}
+use Rattle.smart_base.specs.Views.{View, is_view}
 use Rattle.smart_statements.specs.Forms.{SignedBy}
 use Rattle.smart_statements.specs.declared.statement.Answer.{Answer}
 use Rattle.smart_messages.specs.Messages.{decoded}
@@ -91,10 +93,10 @@ pub record GoesWell {S : Type 0} (view : View) (h : Host S) : Type 0 where
   pub later : List LogEntry
   pub both : h.life.diary ≡ first ++ later
   pub firm_is : take h.node.firm h.node.entries ≡ cut_at h.node.opening first ++ later
-  pub first_sound : IsSoundBook h.node.secret told view first
+  pub first_sound : IsSoundBook h.node.secret told h.node.replica.views first
   pub first_made : 0 < h.node.opening → HasMade first h.node.opening
   pub first_is : h.node.restored ≡ length (cut_at h.node.opening first)
-  pub past : HeldLate view.number h.node
+  pub past : HeldLate h.node
 
 -- A node of a view, whose held messages are right; no more is firm than is written. Where it runs it goes well.
 pub record HostRests {S : Type 0} (view : View) (h : Host S) : Type 0 where
@@ -110,7 +112,7 @@ pub record Borne {S : Type 0} (w : World S) : Type 0 where
   pub sent : SentFirm w
 
 -- a message leaves
-borne-posts : {S : Type 0} (w : World S) (s : Sent) → IsOwnSent w.view s.origin s.to s.content → IsBorne w.hosts s.origin s.content → Borne w → Borne (posts w s)
+borne-posts : {S : Type 0} (w : World S) (s : Sent) → IsOwnSent (views_after w.view w.chosen) s.origin s.to s.content → IsBorne w.hosts s.origin s.content → Borne w → Borne (posts w s)
 borne-posts {S = S} w s own borne is =
     by-posts (λ (v : World S). Borne v) w s
     (λ ending. record { viewed = is.viewed; hosts = is.hosts; sent = record { own = is.sent.own; borne = is.sent.borne } })
@@ -118,7 +120,7 @@ borne-posts {S = S} w s own borne is =
       viewed = is.viewed;
       hosts = is.hosts;
       sent = record {
-        own = each_end (λ (t : Sent). IsOwnSent w.view t.origin t.to t.content) w.sent s is.sent.own own;
+        own = each_end (λ (t : Sent). IsOwnSent (views_after w.view w.chosen) t.origin t.to t.content) w.sent s is.sent.own own;
         borne = each_end (λ (t : Sent). IsBorne w.hosts t.origin t.content) w.sent s is.sent.borne borne;
       };
     })
@@ -142,7 +144,7 @@ borne-sends_all {S = S} id view w (h ∷ hs) same each is =
     let next : World S = posts w (from_node id view h) in
     borne-sends_all id view next hs (same ∙ sym (view-stays w (from_node id view h)))
     (each-weaken (LeavesRight id w.hosts) (LeavesRight id next.hosts) (λ x right. (right.0, borne-stays w (from_node id view h) (origins.Node id) (contents.Message x.message) right.1)) hs each.1)
-    (borne-posts w (from_node id view h) (record { target = h.to; addressed = ap (λ (v : View). heard_by v h.to) same; own = each.0.0 }) each.0.1 is)
+    (borne-posts w (from_node id view h) (record { view = w.view; known = first_there w.view w.chosen; target = h.to; addressed = ap (λ (v : View). heard_by v h.to) same; own = each.0.0 }) each.0.1 is)
 
 -- a host in another's place
 
@@ -230,15 +232,22 @@ told_event secret told Tick = tt
 told_event secret told Deliver = tt
 told_event secret told (Firm count) = tt
 
+-- the first entries stay sound where more has been stated and the node steps
+first-after : {S : Type 0} (m : Meaning S) (n : Node S) (event : NodeEvent) (told more : List Statement) → AreAmong told more → (first : List LogEntry) → IsSoundBook n.secret told n.replica.views first
+    → IsSoundBook (step_of m n event).node.secret more (step_of m n event).node.replica.views first
+first-after m n event told more grows first book =
+    subst (λ (vs : List View). IsSoundBook (step_of m n event).node.secret more vs first) (sym (views-step m n event))
+    (subst (λ (k : List ℕ). IsSoundBook k more n.replica.views first) (sym (secret-step m n event)) (book_more told more grows n.secret n.replica.views first book))
+
 -- a host whose node has stepped goes well
-well-after : {S : Type 0} (m : Meaning S) (view : View) (h : Host S) (event : NodeEvent) → is_view view ≡ true → Later h.node (step_of m h.node event).node → h.node.firm ≤ length h.node.entries → GoesWell view h
+well-after : {S : Type 0} (m : Meaning S) (view : View) (h : Host S) (event : NodeEvent) → Later h.node (step_of m h.node event).node → h.node.firm ≤ length h.node.entries → GoesWell view h
     → GoesWell view (host_after (course_of m) h (step_of m h.node event))
-well-after {S = S} m view h event viewed l low is =
+well-after {S = S} m view h event l low is =
     let n : Node S = h.node in
     let n' : Node S = (step_of m h.node event).node in
     let told : List Statement = is.told ++ told_by n.secret event in
     let more : AreAmong is.told told = among-all is.told told (λ x there. among_left x is.told (told_by n.secret event) there) in
-    let sound : IsSound told view n' = sound_step m told view n event viewed (sound_more is.told told more view n is.sound) (told_event n.secret is.told event) in
+    let sound : IsSound told view n' = sound_step m told view n event (sound_more is.told told more view n is.sound) (told_event n.secret is.told event) in
     let opening : n'.opening ≡ n.opening = opening-step m n event in
     let new : List LogEntry = from_to n.firm n'.firm n'.entries in
     let old : take n.firm n'.entries ≡ take n.firm n.entries =
@@ -253,27 +262,27 @@ well-after {S = S} m view h event viewed l low is =
       firm_is = sym (take-from n.firm n'.firm n'.entries l.more)
           ∙ (ap (λ (es : List LogEntry). es ++ new) (old ∙ is.firm_is)
           ∙ (append_assoc (cut_at n.opening is.first) is.later new ∙ ap (λ (k : ℕ). cut_at k is.first ++ (is.later ++ new)) (sym opening)));
-      first_sound = subst (λ (k : List ℕ). IsSoundBook k told view is.first) (sym (secret-step m n event)) (book_more is.told told more n.secret view is.first is.first_sound);
+      first_sound = first-after m n event is.told told more is.first is.first_sound;
       first_made = subst (λ (k : ℕ). 0 < k → HasMade is.first k) (sym opening) is.first_made;
       first_is = restored-step m n event ∙ (is.first_is ∙ ap (λ (k : ℕ). length (cut_at k is.first)) (sym opening));
-      past = late-released view.number n' (late-step m view.number n event is.past);
+      past = late-released n' (late-step m n event is.past);
     }
 
-rests-after : {S : Type 0} (m : Meaning S) (view : View) (h : Host S) (event : NodeEvent) → is_view view ≡ true → h.up ≡ true → Later h.node (step_of m h.node event).node → HostRests view h
+rests-after : {S : Type 0} (m : Meaning S) (view : View) (h : Host S) (event : NodeEvent) → h.up ≡ true → Later h.node (step_of m h.node event).node → HostRests view h
     → HostRests view (host_after (course_of m) h (step_of m h.node event))
-rests-after {S = S} m view h event viewed up later is =
+rests-after {S = S} m view h event up later is =
     let n' : Node S = (step_of m h.node event).node in
     record {
       view_is = view-step m h.node event ∙ is.view_is;
       rests = rests-released n' later.rests;
-      well = λ up. well-after m view h event viewed later is.low (is.well up);
+      well = λ up. well-after m view h event later is.low (is.well up);
       low = later.low;
     }
 
 -- what rests on entries that are firm rests on the diary, where the node's reports are of this life
-rests_on_diary : {S : Type 0} (view : View) (told : List Statement) (n : Node S) (first later d : List LogEntry) (message : Message) → IsSound told view n → IsSoundBook n.secret told view first → d ≡ first ++ later
+rests_on_diary : {S : Type 0} (view : View) (told : List Statement) (n : Node S) (first later d : List LogEntry) (message : Message) → IsSound told view n → IsSoundBook n.secret told n.replica.views first → d ≡ first ++ later
     → take n.firm n.entries ≡ cut_at n.opening first ++ later → (0 < n.opening → HasMade first n.opening) → n.restored ≡ length (cut_at n.opening first)
-    → AllPast view.number (take n.restored n.entries) message → RestsOn (take n.firm n.entries) message → RestsOn d message
+    → AllPast (take n.restored n.entries) message → RestsOn (take n.firm n.entries) message → RestsOn d message
 rests_on_diary {S = S} view told n [] later d message is book both firm made count past rests =
     subst (λ (es : List LogEntry). RestsOn es message) (firm ∙ (ap (λ (es : List LogEntry). es ++ later) (none n.opening (λ some. (made some).there)) ∙ sym both)) rests
   where
@@ -291,22 +300,22 @@ rests_on_diary {S = S} view told n (e ∷ es) later d message is book both firm 
     let restored : take n.restored n.entries ≡ cut =
     ap (λ (k : ℕ). take k n.entries) count ∙ (ap (λ (xs : List LogEntry). take (length cut) xs) entries ∙ take-append_seam cut (later ++ rest)) in
     subst (λ (xs : List LogEntry). RestsOn xs message) (sym both)
-    (each_both (λ (s : Statement). IsPast view.number cut s) (IsShown digest_of (cut ++ later)) (IsShown digest_of (first ++ later))
-    (λ s late is. shown_in_whole n.secret told view n.opening (e ∷ es) later s book made lawful late is) (says.own message)
-    (subst (λ (xs : List LogEntry). AllPast view.number xs message) restored past) (subst (λ (xs : List LogEntry). RestsOn xs message) firm rests))
+    (each_both (λ (s : Statement). IsPast cut s) (IsShown digest_of (cut ++ later)) (IsShown digest_of (first ++ later))
+    (λ s late is. shown_in_whole n.secret told n.replica.views n.opening (e ∷ es) later s book made lawful late is) (says.own message)
+    (subst (λ (xs : List LogEntry). AllPast xs message) restored past) (subst (λ (xs : List LogEntry). RestsOn xs message) firm rests))
 
 -- what leaves rests on it
-leaving_borne : {S : Type 0} (m : Meaning S) (view : View) (h : Host S) (event : NodeEvent) → is_view view ≡ true → Later h.node (step_of m h.node event).node → h.node.firm ≤ length h.node.entries → GoesWell view h
+leaving_borne : {S : Type 0} (m : Meaning S) (view : View) (h : Host S) (event : NodeEvent) → Later h.node (step_of m h.node event).node → h.node.firm ≤ length h.node.entries → GoesWell view h
     → Each (λ x. IsOwn (step_of m h.node event).node.id x.to x.message × RestsOn (host_after (course_of m) h (step_of m h.node event)).life.diary x.message) (leaving (step_of m h.node event).node.firm (step_of m h.node event).node.held)
-leaving_borne {S = S} m view h event viewed l low is =
+leaving_borne {S = S} m view h event l low is =
     let n : Node S = h.node in
     let n' : Node S = (step_of m h.node event).node in
     let after : Host S = host_after (course_of m) h (step_of m h.node event) in
     let told : List Statement = is.told ++ told_by n.secret event in
     let more : AreAmong is.told told = among-all is.told told (λ x there. among_left x is.told (told_by n.secret event) there) in
-    let sound : IsSound told view n' = sound_step m told view n event viewed (sound_more is.told told more view n is.sound) (told_event n.secret is.told event) in
-    let well : GoesWell view after = well-after m view h event viewed l low is in
-    let late : HeldLate view.number n' = late-step m view.number n event is.past in
+    let sound : IsSound told view n' = sound_step m told view n event (sound_more is.told told more view n is.sound) (told_event n.secret is.told event) in
+    let well : GoesWell view after = well-after m view h event l low is in
+    let late : HeldLate n' = late-step m n event is.past in
     let new : List LogEntry = from_to n.firm n'.firm n'.entries in
     let opening : n'.opening ≡ n.opening = opening-step m n event in
     let old : take n.firm n'.entries ≡ take n.firm n.entries =
@@ -315,18 +324,18 @@ leaving_borne {S = S} m view h event viewed l low is =
     sym (take-from n.firm n'.firm n'.entries l.more)
     ∙ (ap (λ (es : List LogEntry). es ++ new) (old ∙ is.firm_is)
     ∙ (append_assoc (cut_at n.opening is.first) is.later new ∙ ap (λ (k : ℕ). cut_at k is.first ++ (is.later ++ new)) (sym opening))) in
-    each_both (λ (x : Held). IsOwn n'.id x.to x.message × RestsOn (take n'.firm n'.entries) x.message) (λ (x : Held). AllPast view.number (take n'.restored n'.entries) x.message)
+    each_both (λ (x : Held). IsOwn n'.id x.to x.message × RestsOn (take n'.firm n'.entries) x.message) (λ (x : Held). AllPast (take n'.restored n'.entries) x.message)
     (λ (x : Held). IsOwn n'.id x.to x.message × RestsOn after.life.diary x.message)
     (λ x right past. (
       right.0,
       rests_on_diary view told n' is.first (is.later ++ new) after.life.diary x.message sound
-          (subst (λ (k : List ℕ). IsSoundBook k told view is.first) (sym (secret-step m n event)) (book_more is.told told more n.secret view is.first is.first_sound))
+          (first-after m n event is.told told more is.first is.first_sound)
           (ap (λ (es : List LogEntry). es ++ new) is.both ∙ append_assoc is.first is.later new) firm
           (subst (λ (k : ℕ). 0 < k → HasMade is.first k) (sym opening) is.first_made)
           (restored-step m n event ∙ (is.first_is ∙ ap (λ (k : ℕ). length (cut_at k is.first)) (sym opening))) past right.1,
     ))
     (leaving n'.firm n'.held) (leaving_rest n'.id n'.firm n'.entries n'.held l.rests.held)
-    (each-leaving (λ (x : Held). AllPast view.number (take n'.restored n'.entries) x.message) n'.firm n'.held late.late)
+    (each-leaving (λ (x : Held). AllPast (take n'.restored n'.entries) x.message) n'.firm n'.held late.late)
 
 -- a node's step
 borne-event : {S : Type 0} (m : Meaning S) (w : World S) (i : ℕ) (h : Host S) (event : NodeEvent) → h.up ≡ true → slice_get w.hosts i ≡ Some h → IsTold h event → Borne w
@@ -337,7 +346,7 @@ borne-event {S = S} m w i h event up at told is =
     let h' : Host S = host_after (course_of m) h o in
     let rests : HostRests w.view h = each_get (HostRests w.view) w.hosts i h is.hosts at in
     let later : Later h.node o.node = later-step m w.view h event up told rests in
-    let new : HostRests w.view h' = rests-after m w.view h event is.viewed up later rests in
+    let new : HostRests w.view h' = rests-after m w.view h event up later rests in
     let b : Borne (with_host w i h') = borne-with w i h h' at later.id (longer-append h.life.diary (from_to h.node.firm o.node.firm o.node.entries)) new is in
     borne-sends_all h.node.id (view_of o.node) _ (leaving o.node.firm o.node.held) new.view_is
     (each-weaken (λ (x : Held). IsOwn o.node.id x.to x.message × RestsOn h'.life.diary x.message)
@@ -346,8 +355,8 @@ borne-event {S = S} m w i h event up at told is =
       subst (λ (k : ℕ). IsOwn k x.to x.message) later.id right.0,
       borne_here h.node.id (contents.Message x.message) w.hosts i h h' at (record { member = later.id; rested = right.1 }),
     ))
-    (leaving o.node.firm o.node.held) (leaving_borne m w.view h event is.viewed later rests.low (rests.well up)))
-    (record { viewed = b.viewed; hosts = b.hosts; sent = record { own = b.sent.own; borne = b.sent.borne } })
+    (leaving o.node.firm o.node.held) (leaving_borne m w.view h event later rests.low (rests.well up)))
+    (record { viewed = b.viewed; hosts = b.hosts; sent = record { own = subst (λ (vs : List View). Each (λ (t : Sent). IsOwnSent vs t.origin t.to t.content) w.sent) (same_after w.view w.chosen _) b.sent.own; borne = b.sent.borne } })
 
 -- the store of a host makes a call
 borne-called : {S : Type 0} (m : Meaning S) (w : World S) (i : ℕ) (h : Host S) → slice_get w.hosts i ≡ Some h → Borne w → Borne (called (course_of m) w i h)
@@ -395,9 +404,9 @@ keeps-borne m =
       crash = λ w i h left up at may is. borne-crashed m w i h left at is;
       hear = λ w i c x a at has read is. record { viewed = is.viewed; hosts = is.hosts; sent = record { own = is.sent.own; borne = is.sent.borne } };
       ask = λ w i c op at free few brief is.
-          borne-posts (asked_by w i c op) (from_client w.view c (ask_of c op)) (record { addressed = refl; own = refl }) tt
+          borne-posts (asked_by w i c op) (from_client w.view c (ask_of c op)) (record { view = w.view; known = first_there w.view w.chosen; addressed = refl; own = refl }) tt
           (record { viewed = is.viewed; hosts = is.hosts; sent = record { own = is.sent.own; borne = is.sent.borne } });
-      again = λ w i c q at waits is. borne-posts w (from_client w.view c (signed_by c q)) (record { addressed = refl; own = refl }) tt is;
+      again = λ w i c q at waits is. borne-posts w (from_client w.view c (signed_by c q)) (record { view = w.view; known = first_there w.view w.chosen; addressed = refl; own = refl }) tt is;
       learn = λ w i j c d at other is. record { viewed = is.viewed; hosts = is.hosts; sent = record { own = is.sent.own; borne = is.sent.borne } };
       inject = λ w x read fine is. borne-posts w (from_script x) refl tt is;
       declare = λ w faulty rogue ending how is. record { viewed = is.viewed; hosts = is.hosts; sent = record { own = is.sent.own; borne = is.sent.borne } };
@@ -433,9 +442,10 @@ borne-resumed {S = S} m service w i h down at r is =
     let run : Running next.all next.past h' = next.lasts.up refl in
     let low = next.lasts.low in
     let old = run.old in
+    let vs : List View = views_after w.view w.chosen in
     borne-with w i h h' at on.name (record { more = []; split = sym (append-nil h.life.diary) })
     (record {
-      view_is = ap present next.sound.views;
+      view_is = view_one m w.view w.chosen n next.wrote.at;
       rests = rests-sound (stated w.sent) w.view n next.sound (from_held m group_secret h.node.id w.view w.period (parts_held h));
       well = λ up. record {
         stored = record {
@@ -449,24 +459,25 @@ borne-resumed {S = S} m service w i h down at r is =
         later = run.later;
         both = run.both;
         firm_is = firm_parts n run.first run.later h.life.diary run.both run.diary run.first_made;
-        first_sound = subst (λ (k : List ℕ). IsSoundBook k (stated w.sent) w.view run.first) (sym next.shared)
-            (front_of group_secret (stated w.sent) w.view run.first run.later (subst (λ (es : List LogEntry). IsSoundBook group_secret (stated w.sent) w.view es) run.both next.diary.sound));
+        first_sound = subst (λ (k : List ℕ). IsSoundBook k (stated w.sent) n.replica.views run.first) (sym next.shared)
+            (book_node m group_secret (stated w.sent) w.view w.chosen n run.first next.wrote.at
+            (front_of group_secret (stated w.sent) vs run.first run.later (subst (λ (es : List LogEntry). IsSoundBook group_secret (stated w.sent) vs es) run.both next.diary.sound)));
         first_made = run.first_made;
         first_is = run.first_is;
-        past = late-none w.view.number n (ap (λ (vs : List View). (present vs).number) next.sound.views) (omega (arith, low, old)) (from_held m group_secret h.node.id w.view w.period (parts_held h));
+        past = late-none n (omega (arith, low, old)) (from_held m group_secret h.node.id w.view w.period (parts_held h));
       };
       low = next.lasts.low;
     }) is
 
 -- hosts that have just opened rest
-hosts_rest : {S : Type 0} (m : Meaning S) (view : View) (period : ℕ) (ids : List ℕ) → Each (HostRests view) (hosts_from m view period ids)
-hosts_rest m view period [] = tt
-hosts_rest m view period (id ∷ ids) = (opened_rests m view period id, hosts_rest m view period ids)
+hosts_rest : {S : Type 0} (m : Meaning S) (view : View) (period : ℕ) (ids : List ℕ) → is_view view ≡ true → Each (HostRests view) (hosts_from m view period ids)
+hosts_rest m view period [] viewed = tt
+hosts_rest m view period (id ∷ ids) viewed = (opened_rests m view period id viewed, hosts_rest m view period ids viewed)
   where
-    opened_rests : {S : Type 0} (m : Meaning S) (view : View) (period : ℕ) (id : ℕ) → HostRests view (host_of_node (opened (outset_of m view period id)))
-    opened_rests {S = S} m view period id =
+    opened_rests : {S : Type 0} (m : Meaning S) (view : View) (period : ℕ) (id : ℕ) → is_view view ≡ true → HostRests view (host_of_node (opened (outset_of m view period id)))
+    opened_rests {S = S} m view period id viewed =
         let n : Node S = opened (outset m group_secret id view period) in
-        let sound : IsSound [] view n = sound_opened m group_secret id view period in
+        let sound : IsSound [] view n = sound_opened m group_secret id view period viewed in
         record {
           view_is = refl;
           rests = rests-opened m group_secret id view period;
@@ -478,10 +489,10 @@ hosts_rest m view period (id ∷ ids) = (opened_rests m view period id, hosts_re
             later = [];
             both = refl;
             firm_is = refl;
-            first_sound = front_sound group_secret [] view n.entries 0 (book_sound [] view n sound refl);
+            first_sound = front_sound group_secret [] n.replica.views n.entries 0 (book_sound [] view n sound refl);
             first_made = λ some. absurd (omega (arith, some));
             first_is = refl;
-            past = late-none view.number n refl (omega arith) refl;
+            past = late-none n (omega arith) refl;
           };
           low = omega arith;
         }
@@ -505,7 +516,7 @@ borne-added {S = S} m w i member is =
     let h : Host S = new_host m w member in
     record {
       viewed = is.viewed;
-      hosts = each_insert (HostRests w.view) w.hosts i h is.hosts (hosts_rest m w.view w.period (member ∷ [])).0;
+      hosts = each_insert (HostRests w.view) w.hosts i h is.hosts (hosts_rest m w.view w.period (member ∷ []) is.viewed).0;
       sent = record {
         own = is.sent.own;
         borne = each-weaken (λ (s : Sent). IsBorne w.hosts s.origin s.content) (λ (s : Sent). IsBorne (insert w.hosts i h) s.origin s.content)
@@ -526,7 +537,7 @@ right-borne m brief service =
 
 -- at the beginning
 pub borne-begun : {S : Type 0} (m : Meaning S) (g : Header) → IsHeader g → Borne (begun m g)
-borne-begun m g is = record { viewed = is.viewed; hosts = hosts_rest m g.view g.period g.view.members; sent = record { own = tt; borne = tt } }
+borne-begun m g is = record { viewed = is.viewed; hosts = hosts_rest m g.view g.period g.view.members is.viewed; sent = record { own = tt; borne = tt } }
 
 -- after any lines
 pub right_borne-after : {S : Type 0} (m : Meaning S) → IsBrief m → IsRestorable m → (g : Header) (ls : List Line) → IsHeader g → ChosenRight m (world_after (course_of m) (begun m g) ls) × Borne (world_after (course_of m) (begun m g) ls)

@@ -1,4 +1,7 @@
 -- The list of chosen batches: each is certified, and every host stands along it.
+use Rattle.world_laws.proofs.OneViews.{book_at, certified_one}
+use Rattle.world_laws.proofs.InForce.{AreFew, backed_now, first_in_force, viewed_now}
+use Rattle.world_laws.specs.InForce.{IsInForce}
 use Rattle.std.proofs.Common.{◌≡◌, ℕ, zero, suc, ◌+◌, ◌-◌, ◌^◌, ◌<◌, ◌≤◌, ◌++◌, ◌==◌, Bool, cond, true, false, List, [], ◌∷◌, length, ◌∙◌, sym, refl, inl, inr, arith, Option, Some, None, subst, take, length-append, eqb-true, eq-eqb, ap}
 use Rattle.std.proofs.lemmas.List.{length-take-le}
 use Rattle.std.specs.Prelude.{IfSome, slice_get}
@@ -8,7 +11,7 @@ use Rattle.smart_statements.specs.Batches.{Batch}
 use Rattle.smart_service.specs.Services.{Meaning}
 use Rattle.vote_book.specs.declared.entry.LogEntry.{LogEntry}
 use Rattle.vote_book.specs.declared.entry.LogEntry.TheVariants.{Decided}
-use Rattle.replica_rules.specs.Replicas.{state, executed_lines, batch_at}
+use Rattle.replica_rules.specs.Replicas.{state, executed_lines, batch_at, views_after}
 use Rattle.book_laws.specs.BookCuts.{cut_at}
 use Rattle.vote_book.specs.Books.{Among, HasMade, last_made}
 use Rattle.smart_service.specs.declared.replica.Replica.{Replica}
@@ -30,9 +33,8 @@ use Rattle.node_laws.specs.Sound.{IsSound}
 use Rattle.node_laws.proofs.More.{sound_more}
 use Rattle.node_laws.specs.Restored.{IsSoundBook}
 use Rattle.node_laws.proofs.Restored.{front_sound, book_more}
-use Rattle.node_laws.proofs.CertifiedBooks.{certified_book}
 use Rattle.world_rules.specs.Secrets.{group_secret}
-use Rattle.world_rules.specs.Premises.{is_among, too_many}
+use Rattle.world_rules.specs.Premises.{is_among}
 use Rattle.world_rules.specs.Worlds.{Host, World, chosen_with, host_of, written}
 use Rattle.world_laws.specs.Promises.{IsChosenAt, IsWitness}
 use Rattle.node_rules.specs.Deliveries.{AtPlaces}
@@ -57,7 +59,7 @@ use Rattle.smart_base.proofs.ViewFacts.{each-weaken}
 
 -- a book from which a member may go on, which makes no place past the end of the list
 pub record BookRight (sent : List Sent) (view : View) (chosen : List Batch) (es : List LogEntry) : Type 0 where
-  pub sound : IsSoundBook group_secret (stated sent) view es
+  pub sound : IsSoundBook group_secret (stated sent) (views_after view chosen) es
   pub within : last_made es ≤ length chosen
 
 -- All that a node and the lives before it had written. While the node runs, that is what is written. The node's book is the cut of it at the place of the
@@ -91,14 +93,15 @@ pub record HostRight {S : Type 0} (sent : List Sent) (m : Meaning S) (view : Vie
   pub aside : BookRight sent view chosen h.life.aside
   pub few : FewHost sent whole h
 
--- a world in which all hosts are right, each member has one host, each chosen batch is certified, few are faulty, and what has been stated is shown
+-- a world in which all hosts are right, each member has one host, each chosen batch is certified, few of each view in force are faulty, and what has been
+-- stated is shown
 pub record WorldRight {S : Type 0} (m : Meaning S) (w : World S) : Type 0 where
   pub right : Each (HostRight w.sent m w.view w.chosen) w.hosts
   pub ids : AreNames w.view (names w.hosts)
   pub viewed : is_view w.view ≡ true
   pub period_fits : w.period < 2 ^ 32
   pub certified : AreDecided (stated w.sent) w.view w.chosen
-  pub few : too_many w.view w.faulty ≡ false
+  pub few : AreFew w
   pub shown : AllShown w.faulty (stated w.sent) w.hosts
   -- restarts over snapshots of the list rest on these
   pub begins : is_first_view w.view ≡ true
@@ -175,12 +178,13 @@ each-step P chosen n (Some batch) own all = either (λ (bs : List Batch). Each P
 pub right-witness : {S : Type 0} (m : Meaning S) (w : World S) → WorldRight m w → (member : ℕ) → IsWitness w member
 right-witness {S = S} m w r =
     witness-of w
-    (each-weaken (HostRight w.sent m w.view w.chosen) (HostStands (stated w.sent) w.view) (λ h right. record { lawful = right.diary.sound.lawful; backed = right.diary.sound.backed }) w.hosts r.right)
+    (each-weaken (HostRight w.sent m w.view w.chosen) (HostStands w)
+    (λ h right. record { lawful = right.diary.sound.lawful; backed = λ v force. backed_now w v force group_secret (stated w.sent) h.life.diary right.diary.sound }) w.hosts r.right)
     r.shown
 
--- what members have stated is witnessed
-pub right-witnessed : {S : Type 0} (m : Meaning S) (w : World S) → WorldRight m w → Witnessed group_secret digest_of w.view (is_among w.faulty) (diary w) (stated w.sent)
-right-witnessed m w r = witnessing w r.viewed r.few (right-witness m w r)
+-- what members have stated is witnessed in each view in force
+pub right-witnessed : {S : Type 0} (m : Meaning S) (w : World S) → WorldRight m w → (v : View) → IsInForce w v → Witnessed group_secret digest_of v (is_among w.faulty) (diary w) (stated w.sent)
+right-witnessed m w r v force = witnessing w v force (viewed_now w v force r.viewed) (r.few v force) (right-witness m w r)
 
 -- so all marks of diaries are
 each_found : {S : Type 0} (P : Host S → Type 0) (hosts : List (Host S)) (member : ℕ) (h : Host S) → Each P hosts → host_of hosts member ≡ Some h → P h
@@ -206,18 +210,18 @@ get_among (x ∷ xs) zero b at = inl (some_equal b x (sym at))
 get_among (x ∷ xs) (suc i) b at = inr (get_among xs i b at)
 
 -- what a book decides at a place of the list is the list's batch there
-pub decides-chosen : {S : Type 0} (m : Meaning S) (w : World S) (es : List LogEntry) (d : Decision) → ChosenRight m w → EntryMet (IsMet w.sent) (Decided d) → IsSoundBook group_secret (stated w.sent) w.view es
+pub decides-chosen : {S : Type 0} (m : Meaning S) (w : World S) (es : List LogEntry) (d : Decision) → ChosenRight m w → EntryMet (IsMet w.sent) (Decided d) → IsSoundBook group_secret (stated w.sent) (views_after w.view w.chosen) es
     → Among (Decided d) es → (k : ℕ) → d.slot.place ≡ suc k → k < length w.chosen → batch_at w.chosen d.slot.place ≡ Some d.batch
 decides-chosen {S = S} m w es d r met sound there k at low =
     let found = get_some w.chosen k low in
     let long : length (take k w.chosen) ≡ k = length-take-le k w.chosen (omega (arith, low)) in
-    let own : Certified group_secret (stated w.sent) w.view d.slot.place (digest_of d.batch) = certified_book group_secret (stated w.sent) w.view es d sound there in
+    let own : Certified group_secret (stated w.sent) w.view d.slot.place (digest_of d.batch) = certified_one group_secret (stated w.sent) w.view w.chosen es d sound there in
     let listed : Certified group_secret (stated w.sent) w.view (length (take k w.chosen) + 1) (digest_of found.0) =
     certified_get group_secret digest_of (λ front. w.view) (stated w.sent) [] w.chosen k found.0 r.1.certified found.1 in
     let same : length (take k w.chosen) + 1 ≡ d.slot.place = omega (arith, long, at) in
     let here : Certified group_secret (stated w.sent) w.view d.slot.place (digest_of found.0) = subst (λ (p : ℕ). Certified group_secret (stated w.sent) w.view p (digest_of found.0)) same listed in
     let one : digest_of d.batch ≡ digest_of found.0 =
-    decided_once group_secret digest_of w.view (is_among w.faulty) (diary w) (stated w.sent) (right-witnessed m w r.1) d.slot.place own.regency here.regency (digest_of d.batch) (digest_of found.0) own.accepts here.accepts
+    decided_once group_secret digest_of w.view (is_among w.faulty) (diary w) (stated w.sent) (right-witnessed m w r.1 w.view (first_in_force w)) d.slot.place own.regency here.regency (digest_of d.batch) (digest_of found.0) own.accepts here.accepts
     own.decision here.decision in
     let batch : d.batch ≡ found.0 = (grounded-exact w (d.batch ∷ []) r.0.0 (met, tt)).one d.batch found.0 (inl refl) (get_among w.chosen k found.0 found.1) one in
     ap (λ (p : ℕ). batch_at w.chosen p) at ∙ (found.1 ∙ ap (λ (b : Batch). Some b) (sym batch))
@@ -227,7 +231,8 @@ pub book-along : {S : Type 0} (m : Meaning S) (w : World S) (es : List LogEntry)
 book-along {S = S} m w es r met right = record {
   decided = λ d there.
       let s = split_at es (Decided d) there in
-      let turn = in_turn group_secret (stated w.sent) w.view s.before d s.after (subst (λ (xs : List LogEntry). IsSoundBook group_secret (stated w.sent) w.view xs) s.is right.sound) in
+      let vs : List View = views_after w.view w.chosen in
+      let turn = in_turn group_secret (stated w.sent) vs s.before d s.after (subst (λ (xs : List LogEntry). IsSoundBook group_secret (stated w.sent) vs xs) s.is right.sound) in
       let most = made_most es d.slot.place (record { entry = Decided d; there = there; made = refl }) in
       let within = right.within in
       decides-chosen m w es d r (each_among (EntryMet (IsMet w.sent)) es (Decided d) met there) right.sound there (last_made s.before) (omega (arith, turn)) (omega (arith, turn, most, within));
@@ -268,7 +273,7 @@ chosen_longer m view chosen more front d is =
     }
 
 pub book_longer : (sent : List Sent) (view : View) (chosen more : List Batch) → take (length chosen) more ≡ chosen → (es : List LogEntry) → BookRight sent view chosen es → BookRight sent view more es
-book_longer sent view chosen more front es b = record { sound = b.sound; within = omega (arith, b.within, front-length chosen more front) }
+book_longer sent view chosen more front es b = record { sound = book_at group_secret (stated sent) view chosen more es b.sound; within = omega (arith, b.within, front-length chosen more front) }
 
 wrote_longer : {S : Type 0} (sent : List Sent) (m : Meaning S) (view : View) (chosen more : List Batch) → take (length chosen) more ≡ chosen → (h : Host S) (whole : List LogEntry) → HasWritten sent m view chosen h whole
     → HasWritten sent m view more h whole
@@ -305,7 +310,7 @@ certified_sent sent s view batches all =
 
 book_sent : (sent : List Sent) (s : Sent) (view : View) (chosen : List Batch) (es : List LogEntry) → BookRight sent view chosen es → BookRight (sent ++ s ∷ []) view chosen es
 book_sent sent s view chosen es b = record {
-  sound = book_more (stated sent) (stated (sent ++ s ∷ [])) (among-all (stated sent) (stated (sent ++ s ∷ [])) (stated-grows sent s)) group_secret view es b.sound;
+  sound = book_more (stated sent) (stated (sent ++ s ∷ [])) (among-all (stated sent) (stated (sent ++ s ∷ [])) (stated-grows sent s)) group_secret (views_after view chosen) es b.sound;
   within = b.within;
 }
 
@@ -347,7 +352,7 @@ pub front_right : (sent : List Sent) (view : View) (chosen : List Batch) (count 
 front_right sent view chosen count es b =
     let within = b.within in
     let front = last_front count es in
-    record { sound = front_sound group_secret (stated sent) view es count b.sound; within = omega (arith, within, front) }
+    record { sound = front_sound group_secret (stated sent) (views_after view chosen) es count b.sound; within = omega (arith, within, front) }
 
 -- nothing is one
 pub none_right : (sent : List Sent) (view : View) (chosen : List Batch) (es : List LogEntry) → BookRight sent view chosen es → BookRight sent view chosen []

@@ -1,8 +1,9 @@
 -- Each event of a world keeps the list of chosen batches right.
+use Rattle.world_laws.proofs.InForce.{few_now, first_in_force}
+use Rattle.world_laws.proofs.OneViews.{book_list, certified_one}
 use Rattle.store_laws.specs.Restored.{Images, restores}
 use Rattle.store_laws.specs.States.{MayLeave, StoreState}
 use Rattle.node_laws.proofs.Restored.{book_sound}
-use Rattle.node_laws.proofs.CertifiedBooks.{certified_book}
 use Rattle.world_laws.proofs.Few.{may-have, few-opened, few-book}
 use Rattle.world_laws.proofs.Fitting.{FitHost, own-fits, spelled-life, step-fit}
 use Rattle.world_laws.proofs.Lives.{book_left, lasts-opened, Stopped, has_diary, left_made, left_texts, left_upto, life-firm, place_left}
@@ -12,7 +13,7 @@ use Rattle.std.proofs.lemmas.Bool.{le-ltb, ltb-true, leb-true}
 use Rattle.std.specs.Prelude.{IfSome, map, slice_get, slice_set}
 use Rattle.std.specs.List.{flat_map, list_all, list_any}
 use Rattle.smart_base.specs.Lists.{Each, same_bytes}
-use Rattle.smart_base.specs.Views.{View}
+use Rattle.smart_base.specs.Views.{View, is_view}
 use Rattle.smart_base.specs.declared.party.Party.{Party}
 use Rattle.smart_base.specs.declared.party.Party.TheVariants as parties
 use Rattle.smart_statements.specs.Forms.{SignedBy}
@@ -24,7 +25,7 @@ use Rattle.smart_messages.specs.declared.message.Message.TheVariants.{Ask}
 use Rattle.smart_statements.specs.declared.entry.NodeEvent.{NodeEvent}
 use Rattle.smart_service.specs.Services.{Meaning}
 use Rattle.vote_book.specs.Books.{Among, HasMade}
-use Rattle.replica_rules.specs.Replicas.{batch_at}
+use Rattle.replica_rules.specs.Replicas.{batch_at, views_after}
 use Rattle.replica_rules.specs.Seals.{fits, signed, digest_of, is_managers, is_verified, request_fits}
 use Rattle.node_rules.specs.Nodes.{Node, next_place, view_of}
 use Rattle.node_rules.specs.Steps.{step_of, leaving, opened, takes_in}
@@ -35,7 +36,7 @@ use Rattle.agreement_laws.specs.Lists.{Certified}
 use Rattle.vote_book.specs.declared.entry.LogEntry.{LogEntry}
 use Rattle.smart_base.proofs.ViewFacts.{each-weaken}
 use Rattle.client_quorum.specs.Clients.{request_of}
-use Rattle.node_laws.specs.Sound.{HasBatch}
+use Rattle.node_laws.specs.Sound.{HasBatch, IsSound}
 use Rattle.node_laws.proofs.Passes.{sound_opened}
 use Rattle.world_rules.specs.Secrets.{group_secret}
 use Rattle.world_rules.specs.Clients.{heard}
@@ -70,7 +71,7 @@ use Rattle.book_laws.specs.BookCuts.{cut_at}
 use Rattle.node_laws.specs.Restored.{IsSoundBook}
 use Rattle.replica_laws.proofs.FitBooks.{FitBook}
 use Rattle.vote_book.specs.Entries.{FitsEntry, entry_text}
-use Rattle.world_laws.proofs.Wholes.{decided_at, waiting_decided}
+use Rattle.world_laws.proofs.Wholes.{IsAt, decided_at, waiting_decided}
 use Rattle.snapshot_form.specs.Replicas.{IsOfClients}
 use Rattle.world_laws.proofs.Snapshots.{IsRestorable, IsSnapshotAt}
 use Rattle.world_laws.proofs.ChosenSteps.{IsSourced, Later, goes_later, host-stepped, leaves_shown, settles, stands}
@@ -119,7 +120,7 @@ right-posts {S = S} m w s states r =
       viewed = r.viewed;
       period_fits = r.period_fits;
       certified = r.certified;
-      few = r.few;
+      few = few_now _ (r.few w.view (first_in_force w));
       shown = r.shown;
       begins = r.begins;
       low = r.low;
@@ -134,7 +135,7 @@ right-posts {S = S} m w s states r =
       viewed = r.viewed;
       period_fits = r.period_fits;
       certified = certified_sent w.sent s w.view w.chosen r.certified;
-      few = r.few;
+      few = few_now _ (r.few w.view (first_in_force w));
       shown = shown-sent w.faulty w.sent s w.hosts states r.shown;
       begins = r.begins;
       low = r.low;
@@ -254,13 +255,13 @@ record IsDecidedRight (sent : List Sent) (view : View) (place : ℕ) (batch : Ba
   low : place < 2 ^ 63
   of : IsOfClients batch
 
-decided-right : (sent : List Sent) (view : View) (es : List LogEntry) (d : Decision) → IsSoundBook group_secret (stated sent) view es → Each FitsEntry es → Among (Decided d) es
+decided-right : (sent : List Sent) (view : View) (chosen : List Batch) (es : List LogEntry) (d : Decision) → IsSoundBook group_secret (stated sent) (views_after view chosen) es → Each FitsEntry es → Among (Decided d) es
     → IsDecidedRight sent view d.slot.place d.batch
-decided-right sent view es d sound spelled there =
+decided-right sent view chosen es d sound spelled there =
     let fit : FitsEntry (Decided d) = each_among FitsEntry es (Decided d) spelled there in
     let has : HasBatch group_secret (stated sent) (Decided d) = each_among (HasBatch group_secret (stated sent)) es (Decided d) sound.batches there in
     record {
-      certified = certified_book group_secret (stated sent) view es d sound there;
+      certified = certified_one group_secret (stated sent) view chosen es d sound there;
       low = fit.slot_fits.place_fits.1;
       of = (fit.batch_fits, all_of_clients group_secret d.slot.place d.batch (all_each (request_fits group_secret d.slot.place) d.batch (may_fit group_secret d.slot.place (digest_of d.batch) d.batch has.may)));
     }
@@ -272,7 +273,7 @@ waits-right sent m view chosen h hr spelled None at = tt
 waits-right sent m view chosen h hr spelled (Some batch) at =
     let is = waiting_decided (stated sent) view hr.whole h.node batch hr.sound hr.wrote.cut at in
     subst (λ (b : Batch). IsDecidedRight sent view (next_place h.node) b) is.batch_is
-    (subst (λ (k : ℕ). IsDecidedRight sent view k is.decision.batch) is.place_is (decided-right sent view hr.whole is.decision hr.wrote.right.sound spelled is.there))
+    (subst (λ (k : ℕ). IsDecidedRight sent view k is.decision.batch) is.place_is (decided-right sent view chosen hr.whole is.decision hr.wrote.right.sound spelled is.there))
 
 each_waits : (P Q : Batch → Type 0) (waiting : Option Batch) → ((batch : Batch) → P batch → Q batch) → IfSome waiting P → IfSome waiting Q
 each_waits P Q None all is = tt
@@ -280,7 +281,7 @@ each_waits P Q (Some batch) all is = all batch is
 
 -- all that a host's members have written is few entries
 whole-few : {S : Type 0} (m : Meaning S) (w : World S) (h : Host S) (chosen : List Batch) → length w.sent ≤ 2 ^ 24 → (hr : HostRight w.sent m w.view chosen h) → length hr.whole < 2 ^ 28
-whole-few m w h chosen short hr = few-book group_secret (stated w.sent) w.view w.sent hr.whole hr.wrote.right.sound hr.few.written_from short
+whole-few m w h chosen short hr = few-book group_secret (stated w.sent) (views_after w.view chosen) w.sent hr.whole hr.wrote.right.sound hr.few.written_from short
 
 -- the world behind it
 right-event : {S : Type 0} (m : Meaning S) → IsRestorable m → (w : World S) (i : ℕ) (h : Host S) (event : NodeEvent) → w.ending ≡ None → h.up ≡ true → slice_get w.hosts i ≡ Some h → MayRead w h event → IsSourced w event
@@ -314,7 +315,7 @@ right-event {S = S} m service w i h event on up at may came told text fit r =
       certified = certified-step (stated w.sent) w.view w.chosen n' n'.waiting
           (each_waits (IsDecidedRight w.sent w.view (next_place n')) (λ (batch : Batch). Certified group_secret (stated w.sent) w.view (next_place n') (digest_of batch)) n'.waiting (λ batch is. is.certified) waits)
           r.1.certified;
-      few = r.1.few;
+      few = few_now _ (r.1.few w.view (first_in_force w));
       shown = shown-set w.faulty (stated w.sent) w.hosts i h h' at (grows-firm h h' (from_to h.node.firm n'.firm n'.entries) l.named refl) r.1.shown;
       begins = r.1.begins;
       low = low-step w.chosen n' n'.waiting
@@ -345,7 +346,7 @@ right-set {S = S} m w i h h' at f right marked fetches r = record {
   viewed = r.viewed;
   period_fits = r.period_fits;
   certified = r.certified;
-  few = r.few;
+  few = few_now _ (r.few w.view (first_in_force w));
   shown = shown-set w.faulty (stated w.sent) w.hosts i h h' at f r.shown;
   begins = r.begins;
   low = r.low;
@@ -376,7 +377,7 @@ right-crashed m w i h left up at may r =
 
 -- the diary of a member has few entries
 pub diary-few : {S : Type 0} (m : Meaning S) (w : World S) (i : ℕ) (h : Host S) → slice_get w.hosts i ≡ Some h → ChosenRight m w → length h.life.diary < 2 ^ 28
-diary-few m w i h at r = let hr = host-right m w i h at r in few-book group_secret (stated w.sent) w.view w.sent h.life.diary hr.diary.sound hr.few.diary r.1.short
+diary-few m w i h at r = let hr = host-right m w i h at r in few-book group_secret (stated w.sent) (views_after w.view w.chosen) w.sent h.life.diary hr.diary.sound hr.few.diary r.1.short
 
 -- a checkpoint that states a place is there, if its place is not 0
 no_checkpoint : (present : Option Checkpoint) → IfSome present (λ (x : Checkpoint). 0 < stated_place x.snapshot) → checkpoint_place present ≡ 0 → own_left present ≡ None
@@ -430,7 +431,7 @@ module _ {S : Type 0} (m : Meaning S) (service : IsRestorable m) (w : World S) (
   pub resumed_on : GoesOn w.sent m w.view w.chosen h.node.id (place_left stopped_host) h.life.diary (node_resumed (course_of m) w h)
   resumed_on =
       subst (λ (n : Node S). GoesOn w.sent m w.view w.chosen h.node.id (place_left stopped_host) h.life.diary n) (sym resumed_is)
-      (goes_on w.sent m w.view w.period w.chosen h.node.id (place_left stopped_host) (own_left (restores stopped_host.left).present) h.life.diary left_host.diary resumed_behind none_left diary_met left_host.few.diary)
+      (goes_on w.sent m w.view w.period w.chosen h.node.id (place_left stopped_host) (own_left (restores stopped_host.left).present) h.life.diary r.1.viewed left_host.diary resumed_behind none_left diary_met left_host.few.diary)
 
   pub resumed-right : HostRight w.sent m w.view w.chosen (host_resumed h (node_resumed (course_of m) w h))
   resumed-right = host-resumes w.sent m w.view w.chosen h (node_resumed (course_of m) w h) left_host down resumed_on (diary-few m w i h at r)
@@ -460,7 +461,7 @@ right-meets m w texts r =
       viewed = r.viewed;
       period_fits = r.period_fits;
       certified = r.certified;
-      few = r.few;
+      few = few_now _ (r.few w.view (first_in_force w));
       shown = r.shown;
       begins = r.begins;
       low = r.low;
@@ -476,7 +477,7 @@ right-meets m w texts r =
 -- a client that hears changes none of it
 right-hear : {S : Type 0} (m : Meaning S) (w : World S) (i : ℕ) (c : Client) (a : SignedBy Answer) (h : Heard) → WorldRight m w → WorldRight m (hearing w i c a h)
 unfolding hearing
-right-hear m w i c a h r = record { right = r.right; ids = r.ids; viewed = r.viewed; period_fits = r.period_fits; certified = r.certified; few = r.few; shown = r.shown; begins = r.begins; low = r.low; of = r.of; short = r.short; marks = r.marks; fetched = r.fetched }
+right-hear m w i c a h r = record { right = r.right; ids = r.ids; viewed = r.viewed; period_fits = r.period_fits; certified = r.certified; few = few_now _ (r.few w.view (first_in_force w)); shown = r.shown; begins = r.begins; low = r.low; of = r.of; short = r.short; marks = r.marks; fetched = r.fetched }
 
 -- two facts that are kept, are kept together
 pub keeps-both : {S : Type 0} (course : Course S) (P Q : World S → Type 0) → Keeps course P → Keeps course Q → Keeps course (λ w. P w × Q w)
@@ -558,12 +559,12 @@ chosen-keeps m brief service =
       ask = λ w i c op at free few short r. (
         k.ask w i c op at free few short r.0,
         right-posts m (asked_by w i c op) (from_client w.view c (ask_of c op)) (ask_shows w (signed requests group_secret c.id (request_of c op)))
-            (record { right = r.1.right; ids = r.1.ids; viewed = r.1.viewed; period_fits = r.1.period_fits; certified = r.1.certified; few = r.1.few; shown = r.1.shown; begins = r.1.begins; low = r.1.low; of = r.1.of; short = r.1.short; marks = r.1.marks; fetched = r.1.fetched }),
+            (record { right = r.1.right; ids = r.1.ids; viewed = r.1.viewed; period_fits = r.1.period_fits; certified = r.1.certified; few = few_now _ (r.1.few w.view (first_in_force w)); shown = r.1.shown; begins = r.1.begins; low = r.1.low; of = r.1.of; short = r.1.short; marks = r.1.marks; fetched = r.1.fetched }),
       );
       again = λ w i c q at waits r. (k.again w i c q at waits r.0, right-posts m w (from_client w.view c (signed_by c q)) (ask_shows w (signed requests group_secret c.id q)) r.1);
       learn = λ w i j c d at other r. (
         k.learn w i j c d at other r.0,
-        record { right = r.1.right; ids = r.1.ids; viewed = r.1.viewed; period_fits = r.1.period_fits; certified = r.1.certified; few = r.1.few; shown = r.1.shown; begins = r.1.begins; low = r.1.low; of = r.1.of; short = r.1.short; marks = r.1.marks; fetched = r.1.fetched },
+        record { right = r.1.right; ids = r.1.ids; viewed = r.1.viewed; period_fits = r.1.period_fits; certified = r.1.certified; few = few_now _ (r.1.few w.view (first_in_force w)); shown = r.1.shown; begins = r.1.begins; low = r.1.low; of = r.1.of; short = r.1.short; marks = r.1.marks; fetched = r.1.fetched },
       );
       inject = λ w x read fine r. (k.inject w x read fine r.0, right-posts m w (from_script x) (inject_shows w x fine r.0.0.fit.sent read) r.1);
       declare = λ w faulty rogue ending how r. (
@@ -574,7 +575,7 @@ chosen-keeps m brief service =
           viewed = r.1.viewed;
           period_fits = r.1.period_fits;
           certified = r.1.certified;
-          few = how.few r.1.few;
+          few = few_now _ (how.few (r.1.few w.view (first_in_force w)));
           shown = shown-faulty w.faulty faulty (stated w.sent) w.hosts how.more_faulty r.1.shown;
           begins = r.1.begins;
           low = r.1.low;
@@ -584,22 +585,24 @@ chosen-keeps m brief service =
           fetched = λ on. r.1.fetched (how.over on);
         },
       );
-      same = λ w mark told r. (k.same w mark told r.0, record { right = r.1.right; ids = r.1.ids; viewed = r.1.viewed; period_fits = r.1.period_fits; certified = r.1.certified; few = r.1.few; shown = r.1.shown; begins = r.1.begins; low = r.1.low; of = r.1.of; short = r.1.short; marks = r.1.marks; fetched = r.1.fetched });
+      same = λ w mark told r. (k.same w mark told r.0, record { right = r.1.right; ids = r.1.ids; viewed = r.1.viewed; period_fits = r.1.period_fits; certified = r.1.certified; few = few_now _ (r.1.few w.view (first_in_force w)); shown = r.1.shown; begins = r.1.begins; low = r.1.low; of = r.1.of; short = r.1.short; marks = r.1.marks; fetched = r.1.fetched });
       meet = λ w texts on r. (k.meet w texts on r.0, right-meets m w texts r.1);
     }
 
 -- new nodes
 
 -- opened hosts are right
-hosts_right : {S : Type 0} (m : Meaning S) (view : View) (period : ℕ) (members : List ℕ) → Each (HostRight [] m view []) (hosts_from m view period members)
-hosts_right m view period [] = tt
-hosts_right m view period (id ∷ ids) = (opened_right m view period id, hosts_right m view period ids)
+hosts_right : {S : Type 0} (m : Meaning S) (view : View) (period : ℕ) (members : List ℕ) → is_view view ≡ true → Each (HostRight [] m view []) (hosts_from m view period members)
+hosts_right m view period [] viewed = tt
+hosts_right m view period (id ∷ ids) viewed = (opened_right m view period id viewed, hosts_right m view period ids viewed)
   where
-    opened_right : {S : Type 0} (m : Meaning S) (view : View) (period : ℕ) (id : ℕ) → HostRight [] m view [] (host_of_node (opened (outset_of m view period id)))
-    opened_right m view period id =
-        let sound = sound_opened m group_secret id view period in
-        let none : BookRight [] view [] [] =
-        none_right [] view [] (opened (outset_of m view period id)).entries (record { sound = book_sound [] view (opened (outset_of m view period id)) sound refl; within = omega arith }) in
+    opened_right : {S : Type 0} (m : Meaning S) (view : View) (period : ℕ) (id : ℕ) → is_view view ≡ true → HostRight [] m view [] (host_of_node (opened (outset_of m view period id)))
+    opened_right {S} m view period id viewed =
+        let n : Node S = opened (outset_of m view period id) in
+        let sound : IsSound [] view n = sound_opened m group_secret id view period viewed in
+        let at : IsAt m view [] n = record { reached = omega arith; replica = refl } in
+        let whole : BookRight [] view [] n.entries = record { sound = book_list m group_secret [] view [] n n.entries at (book_sound [] view n sound refl); within = omega arith } in
+        let none : BookRight [] view [] [] = none_right [] view [] n.entries whole in
         record {
           sound = sound;
           shared = refl;
@@ -612,10 +615,10 @@ hosts_right m view period (id ∷ ids) = (opened_right m view period id, hosts_r
             is = λ up. refl;
             cut = refl;
             made = λ some. absurd (omega (arith, some));
-            right = record { sound = book_sound [] view (opened (outset_of m view period id)) sound refl; within = omega arith };
+            right = whole;
             met = (tt, tt);
             past = omega arith;
-            at = record { reached = omega arith; replica = refl };
+            at = at;
           };
           count = refl;
           places = tt;
@@ -647,9 +650,9 @@ host_sent_all {S = S} sent (s ∷ more) m view chosen h r =
     subst (λ (xs : List Sent). HostRight xs m view chosen h) (append_assoc sent (s ∷ []) more) (host_sent_all (sent ++ s ∷ []) more m view chosen h (host_sent sent s m view chosen h r))
 
 -- the host of a new node is right, whatever was sent and decided
-new-right : {S : Type 0} (m : Meaning S) (w : World S) (member : ℕ) → HostRight w.sent m w.view w.chosen (new_host m w member)
-new-right m w member =
-    host_longer w.sent m w.view [] w.chosen refl (new_host m w member) (host_sent_all [] w.sent m w.view [] (new_host m w member) (hosts_right m w.view w.period (member ∷ [])).0)
+new-right : {S : Type 0} (m : Meaning S) (w : World S) (member : ℕ) → is_view w.view ≡ true → HostRight w.sent m w.view w.chosen (new_host m w member)
+new-right m w member viewed =
+    host_longer w.sent m w.view [] w.chosen refl (new_host m w member) (host_sent_all [] w.sent m w.view [] (new_host m w member) (hosts_right m w.view w.period (member ∷ []) viewed).0)
 
 -- a new node is added
 right-added : {S : Type 0} (m : Meaning S) (w : World S) (i member : ℕ) → IsNew w member → WorldRight m w → WorldRight m (added (course_of m) w i member)
@@ -657,12 +660,12 @@ right-added {S = S} m w i member new r =
     let h : Host S = new_host m w member in
     let none : list_any (λ k. k == member) (names w.hosts) ≡ false = none_named w.hosts member (ap (λ (found : Option ℕ). is_some found) new.none) in
     record {
-      right = each_insert (HostRight w.sent m w.view w.chosen) w.hosts i h r.right (new-right m w member);
+      right = each_insert (HostRight w.sent m w.view w.chosen) w.hosts i h r.right (new-right m w member r.viewed);
       ids = subst (AreNames w.view) (sym (map_insert (λ (g : Host S). g.node.id) w.hosts i h)) (names_insert w.view (names w.hosts) i member r.ids none);
       viewed = r.viewed;
       period_fits = r.period_fits;
       certified = r.certified;
-      few = r.few;
+      few = few_now _ (r.few w.view (first_in_force w));
       shown = shown-added w.faulty (stated w.sent) w.hosts i h none r.shown;
       begins = r.begins;
       low = r.low;
@@ -693,7 +696,7 @@ pub chosen-witnessed : {S : Type 0} (m : Meaning S) (w : World S) → ChosenRigh
 chosen-witnessed {S = S} m w r =
     record {
       diaries = each-weaken (HostRight w.sent m w.view w.chosen) (λ (h : Host S). HasDiary h) (λ h right. has_diary right.all right.past h right.lasts) w.hosts r.1.right;
-      witnessed = right-witnessed m w r.1;
+      witnessed = right-witnessed m w r.1 w.view (first_in_force w);
       chosen = r.1.certified;
     }
 
@@ -712,12 +715,12 @@ pub chosen-begun : {S : Type 0} (m : Meaning S) (g : Header) → IsHeader g → 
 chosen-begun m g is = (
   (grounded-begun m g is, record { each = tt }),
   record {
-    right = hosts_right m g.view g.period g.view.members;
+    right = hosts_right m g.view g.period g.view.members is.viewed;
     ids = subst (AreNames g.view) (sym (hosts_ids m g.view g.period g.view.members)) (names_first g.view is.viewed);
     viewed = is.viewed;
     period_fits = is.period_fits;
     certified = tt;
-    few = none_faulty g.view;
+    few = few_now _ (none_faulty g.view);
     shown = λ x never. absurd never;
     begins = is.begins;
     low = omega arith;

@@ -1,4 +1,5 @@
 -- A host stays right where its store makes a call, where its member crashes, and where its node goes on.
+use Rattle.world_laws.proofs.OneViews.{book_at, book_list}
 use Rattle.std.proofs.Common.{◌≡◌, ℕ, zero, suc, ◌-◌, ◌^◌, ◌<◌, ◌≤◌, ◌++◌, ◌∙◌, true, false, List, [], ◌∷◌, length, take, drop, Option, Some, None, IfSome, refl, ap, sym, subst, arith, append-nil, length-append, inl, inr, ◌⊎◌}
 use Rattle.std.specs.Prelude.{option_map}
 use Rattle.std.proofs.Math.Seq.{drop-append_seam}
@@ -20,7 +21,7 @@ use Rattle.store_laws.specs.States.{StoreState, MayLeave, store_opened}
 use Rattle.store_laws.specs.Asked.{IsOneOf}
 use Rattle.world_rules.specs.Crashes.{bytes_held, is_unclosed, still_aside}
 use Rattle.world_rules.specs.Fronts.{stated_place, checkpoint_place}
-use Rattle.replica_rules.specs.Replicas.{state}
+use Rattle.replica_rules.specs.Replicas.{state, views_after}
 use Rattle.snapshot_form.specs.Replicas.{IsOfClients, is_first_view}
 use Rattle.node_rules.specs.Nodes.{Node}
 use Rattle.node_rules.specs.Reopening.{entries_in, reopened, replica_from, or_empty, outset_from, reopened_from, checkpoint_of}
@@ -161,12 +162,13 @@ no_install : (place : ℕ) → InstallUpTo place []
 no_install place i there = absurd there
 
 -- nothing was written: it opens a new book
-first_goes_on : {S : Type 0} (sent : List Sent) (m : Meaning S) (view : View) (period : ℕ) (chosen : List Batch) (id : ℕ) → BookRight sent view chosen [] → FromBook (sources sent) []
+first_goes_on : {S : Type 0} (sent : List Sent) (m : Meaning S) (view : View) (period : ℕ) (chosen : List Batch) (id : ℕ) → is_view view ≡ true → BookRight sent view chosen [] → FromBook (sources sent) []
     → GoesOn sent m view chosen id 0 [] (node_behind m group_secret id view period 0 chosen None [])
 unfolding reopened
-first_goes_on {S = S} sent m view period chosen id b from =
+first_goes_on {S = S} sent m view period chosen id viewed b from =
     let n : Node S = reopened m (outset m group_secret id view period) [] in
-    let sound : IsSound (stated sent) view n = sound_reopened m group_secret id (stated sent) view period [] b.sound (no_install 0) in
+    let sound : IsSound (stated sent) view n = sound_reopened m group_secret id (stated sent) view period [] viewed (book_at group_secret (stated sent) view chosen [] [] b.sound) (no_install 0) in
+    let here : IsAt m view chosen n = record { reached = omega arith; replica = refl } in
     let f = from-opened (sources sent) m group_secret id view period in
     let sourced : FromSources (sources sent) n =
     record { arrivals = f.arrivals; stops = f.stops; syncs = f.syncs; decisions = f.decisions; fetch = f.fetch; waiting = f.waiting; book = f.book; marks = f.marks } in
@@ -177,7 +179,7 @@ first_goes_on {S = S} sent m view period chosen id b from =
       sound = sound;
       at = record { reached = omega arith; replica = refl };
       past = omega arith;
-      right = record { sound = book_sound (stated sent) view n sound refl; within = omega arith };
+      right = record { sound = book_list m group_secret (stated sent) view chosen n n.entries here (book_sound (stated sent) view n sound refl); within = omega arith };
       short = omega arith;
       met = (tt, tt);
       sourced = sourced;
@@ -189,12 +191,12 @@ first_goes_on {S = S} sent m view period chosen id b from =
     }
 
 later_goes_on : {S : Type 0} (sent : List Sent) (m : Meaning S) (view : View) (period : ℕ) (chosen : List Batch) (id place : ℕ) (checkpoint : Option OwnSnapshot) (e : LogEntry) (es : List LogEntry)
-    → BookRight sent view chosen (e ∷ es) → GoesBehind group_secret (stated sent) view place chosen (e ∷ es) → Each (EntryMet (IsMet sent)) (e ∷ es) → FromBook (sources sent) (e ∷ es)
+    → is_view view ≡ true → BookRight sent view chosen (e ∷ es) → GoesBehind group_secret (stated sent) view place chosen (e ∷ es) → Each (EntryMet (IsMet sent)) (e ∷ es) → FromBook (sources sent) (e ∷ es)
     → GoesOn sent m view chosen id place (e ∷ es) (node_behind m group_secret id view period place chosen checkpoint (e ∷ es))
-later_goes_on {S = S} sent m view period chosen id place checkpoint e es b goes met from =
+later_goes_on {S = S} sent m view period chosen id place checkpoint e es viewed b goes met from =
     let d : List LogEntry = e ∷ es in
     let x : Node S = resumed_node m group_secret id view period place chosen checkpoint (e ∷ es) in
-    let same = cut_reopened m group_secret id (stated sent) view period place chosen checkpoint e es goes.sound goes.made goes.upto goes.along in
+    let same = cut_reopened m group_secret id (stated sent) view (views_after view chosen) period place chosen checkpoint e es goes.sound goes.made goes.upto goes.along in
     let all : (e ∷ es) ++ [] ≡ e ∷ es = append-nil (e ∷ es) in
     let reached = goes.along.reached in
     let place_is : x.replica.place ≡ last_made (e ∷ es) = state_place m view (take (last_made (e ∷ es)) chosen) ∙ length-take-le (last_made (e ∷ es)) chosen goes.along.reached in
@@ -203,17 +205,18 @@ later_goes_on {S = S} sent m view period chosen id place checkpoint e es b goes 
       resumed = record { more = []; opening_is = refl; book = sym (append-nil (cut_at place (e ∷ es))); restored_is = refl; firm_is = refl; none = refl };
       name = refl;
       shared = refl;
-      sound = subst (λ (n : Node S). IsSound (stated sent) view n) same (sound_behind m group_secret id (stated sent) view period place chosen checkpoint e es goes.sound goes.made goes.upto goes.along);
+      sound = subst (λ (n : Node S). IsSound (stated sent) view n) same (sound_behind m group_secret id (stated sent) view period place chosen checkpoint e es viewed
+          (book_at group_secret (stated sent) view chosen (take (last_made (e ∷ es)) chosen) (e ∷ es) goes.sound) goes.made goes.upto goes.along);
       at = record { reached = omega (arith, place_is, reached); replica = ap (λ (k : ℕ). state m view (take k chosen)) (sym place_is) };
       past = omega (arith, place_is, low);
       right = subst (λ (xs : List LogEntry). BookRight sent view chosen xs) (sym all) b;
       short = omega arith;
       met = subst (λ (xs : List LogEntry). Each (EntryMet (IsMet sent)) xs) (sym all) met;
-      sourced = from-behind (sources sent) group_secret (stated sent) view m id period place chosen checkpoint (e ∷ es) goes.sound goes.along.reached from;
+      sourced = from-behind (sources sent) group_secret (stated sent) (views_after view chosen) m view id period place chosen checkpoint (e ∷ es) goes.sound goes.along.reached from;
       begun = some_entries (cut_at place (e ∷ es)) (cut_of_begun place (e ∷ es) (begun_book e es b.sound.begun));
       written_from = subst (λ (xs : List LogEntry). FromBook (sources sent) xs) (sym all) from;
       marks = subst (λ (xs : List LogEntry). Each (IsMarkUpTo x.replica.place) xs) (sym all)
-          (subst (λ (k : ℕ). Each (IsMarkUpTo k) (e ∷ es)) (sym place_is) (marks_reached group_secret (stated sent) view (e ∷ es) b.sound));
+          (subst (λ (k : ℕ). Each (IsMarkUpTo k) (e ∷ es)) (sym place_is) (marks_reached group_secret (stated sent) (views_after view chosen) (e ∷ es) b.sound));
       unmarked = λ k. tt;
       fetches = refl;
     })
@@ -226,13 +229,13 @@ later_goes_on {S = S} sent m view period chosen id place checkpoint e es b goes 
     begun_book x xs (inl none) = absurd (cc)
     begun_book x xs (inr is) = is
 
-pub goes_on : {S : Type 0} (sent : List Sent) (m : Meaning S) (view : View) (period : ℕ) (chosen : List Batch) (id place : ℕ) (checkpoint : Option OwnSnapshot) (d : List LogEntry) → BookRight sent view chosen d
-    → GoesBehind group_secret (stated sent) view place chosen d → (place ≡ 0 → checkpoint ≡ None) → Each (EntryMet (IsMet sent)) d → FromBook (sources sent) d
+pub goes_on : {S : Type 0} (sent : List Sent) (m : Meaning S) (view : View) (period : ℕ) (chosen : List Batch) (id place : ℕ) (checkpoint : Option OwnSnapshot) (d : List LogEntry) → is_view view ≡ true
+    → BookRight sent view chosen d → GoesBehind group_secret (stated sent) view place chosen d → (place ≡ 0 → checkpoint ≡ None) → Each (EntryMet (IsMet sent)) d → FromBook (sources sent) d
     → GoesOn sent m view chosen id place d (node_behind m group_secret id view period place chosen checkpoint d)
-goes_on {S = S} sent m view period chosen id zero checkpoint [] b goes none met from =
-    subst (λ (o : Option OwnSnapshot). GoesOn sent m view chosen id zero [] (node_behind m group_secret id view period zero chosen o [])) (sym (none refl)) (first_goes_on sent m view period chosen id b from)
-goes_on sent m view period chosen id (suc k) checkpoint [] b goes none met from = absurd (none_made k goes.made)
-goes_on sent m view period chosen id place checkpoint (e ∷ es) b goes none met from = later_goes_on sent m view period chosen id place checkpoint e es b goes met from
+goes_on {S = S} sent m view period chosen id zero checkpoint [] viewed b goes none met from =
+    subst (λ (o : Option OwnSnapshot). GoesOn sent m view chosen id zero [] (node_behind m group_secret id view period zero chosen o [])) (sym (none refl)) (first_goes_on sent m view period chosen id viewed b from)
+goes_on sent m view period chosen id (suc k) checkpoint [] viewed b goes none met from = absurd (none_made k goes.made)
+goes_on sent m view period chosen id place checkpoint (e ∷ es) viewed b goes none met from = later_goes_on sent m view period chosen id place checkpoint e es viewed b goes met from
 
 -- the own snapshot of a checkpoint
 abbrev pub own_left : Option Checkpoint → Option OwnSnapshot

@@ -1,4 +1,6 @@
 -- A host stays right where its node takes an event. What the step writes goes on behind all that was written before.
+use Rattle.world_laws.proofs.InForce.{first_in_force}
+use Rattle.smart_base.specs.Views.{View}
 use Rattle.std.proofs.Common.{◌≡◌, ℕ, ◌+◌, ◌<◌, ◌≤◌, ◌++◌, ◌∙◌, true, List, [], ◌∷◌, length, take, drop, refl, ap, sym, subst, arith, length-append, Bool, None, append-nil, cond, false, inl, inr, is_some, nat_lt, ◌^◌, ◌⊎◌, Option}
 use Rattle.std.specs.List.{flat_map}
 use Rattle.std.specs.Prelude.{slice_get, Some, IfSome}
@@ -12,7 +14,7 @@ use Rattle.vote_book.specs.Books.{HasMade, Among, last_made}
 use Rattle.vote_book.specs.declared.entry.LogEntry.{LogEntry}
 use Rattle.book_laws.specs.BookCuts.{cut_at, has_cut, kept_of, before_place, from_place}
 use Rattle.book_laws.proofs.CutAgain.{cut_more, more_made}
-use Rattle.replica_rules.specs.Replicas.{state}
+use Rattle.replica_rules.specs.Replicas.{state, views_after}
 use Rattle.node_rules.specs.Nodes.{Node, next_place}
 use Rattle.node_rules.specs.Deliveries.{delivery_in}
 use Rattle.node_rules.specs.Steps.{Outcome, step_of, takes_in, made_firm}
@@ -20,7 +22,8 @@ use Rattle.node_laws.specs.Sound.{IsSound, HasDecided}
 use Rattle.node_laws.specs.Restored.{IsSoundBook}
 use Rattle.node_laws.proofs.Passes.{sound_step, sound_released, sound_takes_in}
 use Rattle.node_laws.proofs.Restored.{front_of}
-use Rattle.node_laws.proofs.Cuts.{book_of_view}
+use Rattle.world_laws.proofs.OneViews.{book_at, node_views}
+use Rattle.world_laws.proofs.Views.{views-step}
 use Rattle.node_laws.proofs.CutNodes.{sound_written}
 use Rattle.replica_laws.proofs.Follows.{Waits, waits-takes_in, WasDue, due-step}
 use Rattle.replica_laws.proofs.Counted.{counted-step}
@@ -54,7 +57,7 @@ use Rattle.world_laws.proofs.Chosen.{BookRight, HostRight, ChosenRight, are_rest
 use Rattle.agreement_laws.proofs.Lists.{each_append, among_right}
 use Rattle.world_laws.proofs.Additions.{Adds, IsNewOf, IsOverOf, IsOwnOf, adds-step}
 use Rattle.smart_statements.specs.declared.entry.NodeEvent.TheVariants.{Arrive, Deliver, Firm, Tick}
-use Rattle.vote_book.specs.declared.entry.LogEntry.TheVariants.{Decided, Promised}
+use Rattle.vote_book.specs.declared.entry.LogEntry.TheVariants.{Decided}
 use Rattle.world_laws.proofs.Stores.{Fits, IsTold, firm-grows, firm-heard}
 use Rattle.node_rules.proofs.Rulewise.{ForEvent}
 use Rattle.replica_laws.proofs.Sources.{FromBook, FromSources, HasSource}
@@ -65,7 +68,7 @@ use Rattle.agreement_laws.specs.Diaries.{IsShown}
 use Rattle.smart_base.specs.declared.party.Party.TheVariants.{Member}
 use Rattle.book_laws.proofs.CutEntries.{cut_among}
 use Rattle.replica_rules.specs.Seals.{digest_of}
-use Rattle.world_laws.proofs.CutSources.{from-written}
+use Rattle.world_laws.proofs.CutSources.{from-written, newest_behind}
 use Rattle.world_laws.proofs.Fronts.{front-length, front-take}
 use Rattle.node_rules.specs.Marks.{last_taken}
 use Rattle.std.proofs.lemmas.Bool.{ltb-false, ltb-true}
@@ -197,7 +200,7 @@ module _ {S : Type 0} (m : Meaning S) (w : World S) (i : ℕ) (h : Host S) (even
   opening = opening-step m h.node event
 
   sound : IsSound (stated w.sent) w.view later_node
-  sound = sound_step m (stated w.sent) w.view h.node event r.1.viewed hr.sound (stated_event w h h.node.secret event hr.shared may)
+  sound = sound_step m (stated w.sent) w.view h.node event hr.sound (stated_event w h h.node.secret event hr.shared may)
 
   shared : later_node.secret ≡ group_secret
   shared = goes_later.shared ∙ hr.shared
@@ -217,11 +220,20 @@ module _ {S : Type 0} (m : Meaning S) (w : World S) (i : ℕ) (h : Host S) (even
   some_whole : hr.whole ≡ [] → ⊥
   some_whole = some_cut later_node.opening hr.whole begun
 
+  -- its views are those behind the list
+  later_views : later_node.replica.views ≡ views_after w.view w.chosen
+  later_views = views-step m h.node event ∙ node_views m w.view w.chosen h.node hr.wrote.at
+
+  listed_book : (es : List LogEntry) → IsSoundBook group_secret (stated w.sent) (views_after w.view w.chosen) es → IsSoundBook later_node.secret (stated w.sent) later_node.replica.views es
+  listed_book es book =
+      subst (λ (k : List ℕ). IsSoundBook k (stated w.sent) later_node.replica.views es) (sym shared) (subst (λ (vs : List View). IsSoundBook group_secret (stated w.sent) vs es) (sym later_views) book)
+
   -- all of it is sound together
-  pub whole_sound : IsSoundBook group_secret (stated w.sent) w.view whole
+  pub whole_sound : IsSoundBook group_secret (stated w.sent) (views_after w.view w.chosen) whole
   whole_sound =
-      subst (λ (k : List ℕ). IsSoundBook k (stated w.sent) w.view whole) shared
-      (sound_written (stated w.sent) w.view later_node hr.whole rest sound (subst (λ (k : List ℕ). IsSoundBook k (stated w.sent) w.view hr.whole) (sym shared) hr.wrote.right.sound) entries made some_whole)
+      subst (λ (vs : List View). IsSoundBook group_secret (stated w.sent) vs whole) later_views
+      (subst (λ (k : List ℕ). IsSoundBook k (stated w.sent) later_node.replica.views whole) shared
+      (sound_written (stated w.sent) w.view later_node hr.whole rest sound (listed_book hr.whole hr.wrote.right.sound) entries made some_whole))
 
   whole_cut : later_node.entries ≡ cut_at later_node.opening whole
   whole_cut = entries ∙ sym (cut_more later_node.opening hr.whole rest made)
@@ -241,12 +253,12 @@ module _ {S : Type 0} (m : Meaning S) (w : World S) (i : ℕ) (h : Host S) (even
 
   whole_from : FromBook (sources w.sent) whole
   whole_from =
-      from-written (sources w.sent) group_secret (stated w.sent) w.view later_node.opening h.node.replica.place hr.whole rest hr.wrote.right.sound
-      (λ p there. book_of_view group_secret (stated w.sent) w.view whole whole_sound p (among_right (Promised p) hr.whole rest there)) (some_long hr.whole some_whole) begun hr.few.written_from
+      from-written (sources w.sent) later_node.opening h.node.replica.place hr.whole rest
+      (newest_behind group_secret (stated w.sent) (views_after w.view w.chosen) hr.whole rest whole_sound) (some_long hr.whole some_whole) begun hr.few.written_from
       (subst (λ (es : List LogEntry). FromBook (sources w.sent) es) entries sourced.book) hr.few.marks adds.later
 
   pub whole_few : length whole < 2 ^ 28
-  whole_few = few-book group_secret (stated w.sent) w.view w.sent whole whole_sound whole_from r.1.short
+  whole_few = few-book group_secret (stated w.sent) (views_after w.view w.chosen) w.sent whole whole_sound whole_from r.1.short
 
   -- the node that has taken the event in is at the same place, with the same book
   same_waits : Waits h.node taken
@@ -276,13 +288,13 @@ module _ {S : Type 0} (m : Meaning S) (w : World S) (i : ℕ) (h : Host S) (even
   -- so is its replica behind the step
   pub stands : IsStateAt m w.view w.chosen later_node.replica
   stands =
-      moved-at m group_secret (stated w.sent) w.view w.chosen w.sent w.marked (is_among w.faulty) (diary w) (right-witnessed m w r.1) (right-marks m w r.1 on) r.0.0.texts (are_restorable m w service r.1) hr.whole taken taken_sound same_secret
+      moved-at m group_secret (stated w.sent) w.view w.chosen w.sent w.marked (is_among w.faulty) (diary w) (right-witnessed m w r.1 w.view (first_in_force w)) (right-marks m w r.1 on) r.0.0.texts (are_restorable m w service r.1) hr.whole taken taken_sound same_secret
       (same_book ∙ (hr.wrote.cut ∙ ap (λ (k : ℕ). cut_at k hr.whole) (sym same_opening))) along taken_at text later_node.replica (moved-step m h.node event)
 
   -- the text of a replica that it takes over is a snapshot of the list, so that replica is small
   taken_text : (f : Fetch) (x : Replica S) → IsReady taken f → are_all_there f ≡ true → IsTakenFrom m f x → IsSnapshotAt m w.view w.chosen (joined_of f)
   taken_text f x due all is =
-      installed-text m group_secret (stated w.sent) w.view w.chosen w.sent w.marked (is_among w.faulty) (diary w) (right-witnessed m w r.1) (right-marks m w r.1 on) r.0.0.texts (are_restorable m w service r.1) hr.whole taken taken_sound same_secret
+      installed-text m group_secret (stated w.sent) w.view w.chosen w.sent w.marked (is_among w.faulty) (diary w) (right-witnessed m w r.1 w.view (first_in_force w)) (right-marks m w r.1 on) r.0.0.texts (are_restorable m w service r.1) hr.whole taken taken_sound same_secret
       (same_book ∙ (hr.wrote.cut ∙ ap (λ (k : ℕ). cut_at k hr.whole) (sym same_opening))) along taken_at text f x due all is
 
   pub settles : IsBrief m → Settles m (takes_in h.node event).node
@@ -303,7 +315,7 @@ module _ {S : Type 0} (m : Meaning S) (w : World S) (i : ℕ) (h : Host S) (even
   -- one batch more is decided at most, and then it waits
   within : last_made whole ≤ length more
   within =
-      let last = whole_last group_secret (stated w.sent) w.view whole later_node whole_sound sound whole_cut in
+      let last = whole_last group_secret (stated w.sent) w.view (views_after w.view w.chosen) whole later_node whole_sound sound whole_cut in
       let most = within-step w.chosen later_node later_node.waiting refl stands.reached in
       omega (arith, last, most)
 
@@ -314,7 +326,7 @@ module _ {S : Type 0} (m : Meaning S) (w : World S) (i : ℕ) (h : Host S) (even
   longer_at = at_longer m w.view w.chosen more later_node front at_list
 
   whole_right : BookRight w.sent w.view more whole
-  whole_right = record { sound = whole_sound; within = within }
+  whole_right = record { sound = book_at group_secret (stated w.sent) w.view w.chosen more whole whole_sound; within = within }
 
   -- ---- its snapshots
 
@@ -526,8 +538,8 @@ module _ {S : Type 0} (m : Meaning S) (w : World S) (i : ℕ) (h : Host S) (even
       let run : Running host-stepped.all host-stepped.past after = host-stepped.lasts.up up in
       subst (λ (k : List ℕ). Each (λ s. Among s (stated w.sent) ⊎ ((signer_of s ≡ Member later_node.id) × IsShown digest_of after.life.diary s)) (statements k x.message)) shared
       (running_shown (stated w.sent) w.view later_node run.first run.later after.life.diary x sound
-      (subst (λ (k : List ℕ). IsSoundBook k (stated w.sent) w.view run.first) (sym shared) (first_sound after.life.diary run.first run.later run.both diary_right.sound))
+      (listed_book run.first (book_at group_secret (stated w.sent) w.view more w.chosen run.first (first_sound after.life.diary run.first run.later run.both diary_right.sound)))
       run.both run.diary run.first_is run.first_made goes_later.low there low)
     where
-      first_sound : (d first behind : List LogEntry) → d ≡ first ++ behind → IsSoundBook group_secret (stated w.sent) w.view d → IsSoundBook group_secret (stated w.sent) w.view first
-      first_sound d first behind parts book = front_of group_secret (stated w.sent) w.view first behind (subst (λ (es : List LogEntry). IsSoundBook group_secret (stated w.sent) w.view es) parts book)
+      first_sound : (d first behind : List LogEntry) → d ≡ first ++ behind → IsSoundBook group_secret (stated w.sent) (views_after w.view more) d → IsSoundBook group_secret (stated w.sent) (views_after w.view more) first
+      first_sound d first behind parts book = front_of group_secret (stated w.sent) (views_after w.view more) first behind (subst (λ (es : List LogEntry). IsSoundBook group_secret (stated w.sent) (views_after w.view more) es) parts book)

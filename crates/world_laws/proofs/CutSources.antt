@@ -22,13 +22,13 @@ use Rattle.agreement_laws.specs.Statements.{Statement}
 use Rattle.agreement_laws.proofs.Lists.{each_among, each_append}
 use Rattle.node_rules.specs.Nodes.{greatest_regency}
 use Rattle.node_rules.specs.Reopening.{is_opening}
-use Rattle.node_laws.proofs.Books.{promised_greatest}
+use Rattle.node_laws.proofs.Books.{greatest_append, promise_most, promised_greatest}
 use Rattle.vote_book.specs.Tidy.{promise_of}
-use Rattle.node_laws.proofs.Cuts.{AreOfView, book_of_view, cut_regency, greatest_append, promise_most}
+use Rattle.node_laws.proofs.Cuts.{cut_regency}
 use Rattle.node_laws.specs.Restored.{IsSoundBook}
 use Rattle.node_laws.specs.Restoring.{resumed_node}
 use Rattle.node_rules.specs.declared.node.OwnSnapshot.{OwnSnapshot}
-use Rattle.node_laws.specs.Sound.{IsBegun}
+use Rattle.node_laws.specs.Sound.{ArePromisedUpTo, IsBegun}
 use Rattle.replica_laws.proofs.MarkPlaces.{IsMarkUpTo}
 use Rattle.world_laws.proofs.Additions.{IsMarkPast}
 use Rattle.replica_laws.proofs.Sources.{EntryFrom, EachBehind, FromBook, FromSources, IsLast, from-end, from-opening, from-resumed}
@@ -60,40 +60,46 @@ from-append sources xs ys some book each last = record {
 -- ---- behind a cut
 
 -- the last entry behind a cut is the last behind the whole: promises count the same, and marks of the whole are of places up to one that the entry's is past
-last_written : (secret : List ℕ) (stated : List Statement) (view : View) (opening place : ℕ) (whole more : List LogEntry) (e : LogEntry) → IsSoundBook secret stated view whole
-    → ((p : Promise) → e ≡ Promised p → p.view ≡ view.number) → Each (IsMarkUpTo place) whole → IsMarkPast place e → IsLast (cut_at opening whole ++ more) e → IsLast (whole ++ more) e
-last_written secret stated view opening place whole more (Promised p) book of up past last =
+last_written : (opening place : ℕ) (whole more : List LogEntry) (e : LogEntry) → ((p : Promise) → e ≡ Promised p → ArePromisedUpTo p.view whole) → Each (IsMarkUpTo place) whole → IsMarkPast place e → IsLast (cut_at opening whole ++ more) e → IsLast (whole ++ more) e
+last_written opening place whole more (Promised p) of up past last =
     let cut : List LogEntry = cut_at opening whole in
-    let at : p.view ≡ view.number = of p refl in
-    let same : greatest_regency p.view cut ≡ greatest_regency p.view whole = cut_regency opening p.view whole (λ q there. book_of_view secret stated view whole book q there ∙ sym at) in
+    let same : greatest_regency p.view cut ≡ greatest_regency p.view whole = cut_regency opening p.view whole (of p refl) in
     let one = greatest_append p.view cut more in
     let two = greatest_append p.view whole more in
     omega (arith, last, same, one, two)
-last_written secret stated view opening place whole more (Marked k) book of up past last = (last.0, lower)
+last_written opening place whole more (Marked k) of up past last = (last.0, lower)
   where
     lower : (other : Mark) → Among (Marked other) (whole ++ more) → other.place < k.place
     lower other there =
         ⊎_elim {C = other.place < k.place}
         (λ old. let most : other.place ≤ place = each_among (IsMarkUpTo place) whole (Marked other) up old in omega (arith, most, past))
         (λ new. last.1 other (among_right (Marked other) (cut_at opening whole) more new)) (among_either (Marked other) whole more there)
-last_written secret stated view opening place whole more (Opened o) book of up past last = tt
-last_written secret stated view opening place whole more (Wrote w) book of up past last = tt
-last_written secret stated view opening place whole more (Accepted a) book of up past last = tt
-last_written secret stated view opening place whole more (Synced s) book of up past last = tt
-last_written secret stated view opening place whole more (Decided d) book of up past last = tt
-last_written secret stated view opening place whole more (Installed i) book of up past last = tt
+last_written opening place whole more (Opened o) of up past last = tt
+last_written opening place whole more (Wrote w) of up past last = tt
+last_written opening place whole more (Accepted a) of up past last = tt
+last_written opening place whole more (Synced s) of up past last = tt
+last_written opening place whole more (Decided d) of up past last = tt
+last_written opening place whole more (Installed i) of up past last = tt
 
 -- all that was written, with what stands behind a cut of it
-pub from-written : (sources : List (List ℕ)) (secret : List ℕ) (stated : List Statement) (view : View) (opening place : ℕ) (whole rest : List LogEntry) → IsSoundBook secret stated view whole
-    → AreOfView view.number rest → 0 < length whole → 0 < length (cut_at opening whole) → FromBook sources whole → FromBook sources (cut_at opening whole ++ rest) → Each (IsMarkUpTo place) whole
+pub from-written : (sources : List (List ℕ)) (opening place : ℕ) (whole rest : List LogEntry) → ((p : Promise) → Among (Promised p) rest → ArePromisedUpTo p.view whole)
+    → 0 < length whole → 0 < length (cut_at opening whole) → FromBook sources whole → FromBook sources (cut_at opening whole ++ rest) → Each (IsMarkUpTo place) whole
     → Each (IsMarkPast place) rest → FromBook sources (whole ++ rest)
-from-written sources secret stated view opening place whole rest book of some begun from_whole from_cut up past =
+from-written sources opening place whole rest of some begun from_whole from_cut up past =
     from-append sources whole rest some from_whole (behind_rest (EntryFrom sources) (cut_at opening whole) rest begun from_cut.behind)
     (λ before e after split.
     let there : Among e rest = among_split e rest before after split in
-    last_written secret stated view opening place whole before e book (λ p same. of p (subst (λ (x : LogEntry). Among x rest) same there)) up (each_among (IsMarkPast place) rest e past there)
+    last_written opening place whole before e (λ p same. of p (subst (λ (x : LogEntry). Among x rest) same there)) up (each_among (IsMarkPast place) rest e past there)
     (from_cut.rising (cut_at opening whole ++ before) e after
     (ap (λ (es : List LogEntry). cut_at opening whole ++ es) split ∙ sym (append_assoc (cut_at opening whole) before (e ∷ after)))))
+
+-- no entry of a sound book is older than what entries before it promise
+pub newest_behind : (secret : List ℕ) (stated : List Statement) (views : List View) (whole rest : List LogEntry) → IsSoundBook secret stated views (whole ++ rest) → (p : Promise) → Among (Promised p) rest
+    → ArePromisedUpTo p.view whole
+newest_behind secret stated views whole rest book p there q early =
+    let s = split_at rest (Promised p) there in
+    let split : whole ++ rest ≡ (whole ++ s.before) ++ Promised p ∷ s.after = ap (λ (es : List LogEntry). whole ++ es) s.is ∙ sym (append_assoc whole s.before (Promised p ∷ s.after)) in
+    (book.ranged (whole ++ s.before) (Promised p) s.after split).newest q (among_left (Promised q) whole s.before early)
 
 -- ---- a cut
 
@@ -106,14 +112,14 @@ synced_from sources o es s each (inl same) = absurd (cc)
 synced_from sources o es s each (inr there) = each_among (EntryFrom sources) es (Synced s) each there
 
 -- a promise of a sound book is of a regency from 1 on
-promise_some : (secret : List ℕ) (stated : List Statement) (view : View) (entries : List LogEntry) (p : Promise) → IsSoundBook secret stated view entries → Among (Promised p) entries → 0 < p.regency
-promise_some secret stated view entries p book there = let s = split_at entries (Promised p) there in (book.ranged s.before (Promised p) s.after s.is).some
+promise_some : (secret : List ℕ) (stated : List Statement) (views : List View) (entries : List LogEntry) (p : Promise) → IsSoundBook secret stated views entries → Among (Promised p) entries → 0 < p.regency
+promise_some secret stated views entries p book there = let s = split_at entries (Promised p) there in (book.ranged s.before (Promised p) s.after s.is).within.some
 
 -- what is kept of the entries before one, if an opening begins them
-from-kept : (sources : List (List ℕ)) (secret : List ℕ) (stated : List Statement) (view : View) (o : Opening) (es : List LogEntry)
+from-kept : (sources : List (List ℕ)) (o : Opening) (es : List LogEntry)
     → ((p : Promise) → Among (Promised p) (Opened o ∷ es) → 0 < p.regency) → Each (EntryFrom sources) es
     → FromBook sources (Opened o ∷ as_promised (greatest_promise (Opened o ∷ es)) (Opened o ∷ es))
-from-kept sources secret stated view o es above each = by (greatest_promise (Opened o ∷ es)) refl
+from-kept sources o es above each = by (greatest_promise (Opened o ∷ es)) refl
   where
     opened_only : FromBook sources (Opened o ∷ [])
     opened_only = from-opening sources (Opened o) tt
@@ -187,15 +193,15 @@ each_first : (P : LogEntry → Type 0) (xs ys : List LogEntry) → Each P (xs ++
 each_first P [] ys each = tt
 each_first P (x ∷ xs) ys each = (each.0, each_first P xs ys each.1)
 
-module _ (sources : List (List ℕ)) (secret : List ℕ) (stated : List Statement) (view : View) where
+module _ (sources : List (List ℕ)) (secret : List ℕ) (stated : List Statement) (views : List View) where
   -- the parts of a cut, by the first entry
-  from_parts : (front behind : List LogEntry) → IsSoundBook secret stated view (front ++ behind) → IsBegun front → FromBook sources (front ++ behind) → FromBook sources (kept_of front ++ behind)
+  from_parts : (front behind : List LogEntry) → IsSoundBook secret stated views (front ++ behind) → IsBegun front → FromBook sources (front ++ behind) → FromBook sources (kept_of front ++ behind)
   from_parts [] behind book begun from = absurd begun
   from_parts (Opened o ∷ es) behind book begun from =
       let front : List LogEntry = Opened o ∷ es in
       from-append sources (kept_of front) behind (omega arith)
-      (from-kept sources secret stated view o es
-      (λ p there. promise_some secret stated view (front ++ behind) p book (among_left (Promised p) front behind there)) (each_first (EntryFrom sources) es behind from.behind))
+      (from-kept sources o es
+      (λ p there. promise_some secret stated views (front ++ behind) p book (among_left (Promised p) front behind there)) (each_first (EntryFrom sources) es behind from.behind))
       (each_rest (EntryFrom sources) es behind from.behind)
       (λ before e after split.
       last_kept front before e
@@ -214,7 +220,7 @@ module _ (sources : List (List ℕ)) (secret : List ℕ) (stated : List Statemen
   front_begun place (e ∷ es) first rest made begun = begun
 
   -- the cut of a book
-  pub from-cut : (place : ℕ) (entries : List LogEntry) → IsSoundBook secret stated view entries → FromBook sources entries → FromBook sources (cut_at place entries)
+  pub from-cut : (place : ℕ) (entries : List LogEntry) → IsSoundBook secret stated views entries → FromBook sources entries → FromBook sources (cut_at place entries)
   from-cut place entries book from = by (has_cut place entries) refl
     where
       front : List LogEntry
@@ -228,13 +234,13 @@ module _ (sources : List (List ℕ)) (secret : List ℕ) (stated : List Statemen
           let b = begins place entries (cut_makes place entries is) in
           let both : front ++ behind ≡ entries = both_parts place entries in
           let split : front ++ b.first ∷ b.rest ≡ entries = ap (λ (es : List LogEntry). front ++ es) (sym b.is) ∙ both in
-          from_parts front behind (subst (λ (es : List LogEntry). IsSoundBook secret stated view es) (sym both) book)
+          from_parts front behind (subst (λ (es : List LogEntry). IsSoundBook secret stated views es) (sym both) book)
           (front_begun place front b.first b.rest b.made (some_begun entries front b.first b.rest (sym split) book.begun))
           (subst (λ (es : List LogEntry). FromBook sources es) (sym both) from)
       by false is = from
 
   -- a node that goes on over a checkpoint and the cut behind it has kept nothing else
-  pub from-behind : {S : Type 0} (m : Meaning S) (id period place : ℕ) (batches : List Batch) (checkpoint : Option OwnSnapshot) (d : List LogEntry) → IsSoundBook secret stated view d → last_made d ≤ length batches
+  pub from-behind : {S : Type 0} (m : Meaning S) (view : View) (id period place : ℕ) (batches : List Batch) (checkpoint : Option OwnSnapshot) (d : List LogEntry) → IsSoundBook secret stated views d → last_made d ≤ length batches
       → FromBook sources d → FromSources sources (resumed_node m secret id view period place batches checkpoint d)
-  from-behind m id period place batches checkpoint d book reached from =
-      from-resumed sources m secret id stated view period place batches checkpoint d book reached (from-cut place d book from)
+  from-behind m view id period place batches checkpoint d book reached from =
+      from-resumed sources m secret id stated view views period place batches checkpoint d book reached (from-cut place d book from)

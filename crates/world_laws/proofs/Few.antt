@@ -163,10 +163,10 @@ few-opened m sent id view period =
 -- ---- bounds
 
 -- a sound book has few entries
-pub few-book : (secret : List ℕ) (stated : List Statement) (view : View) (sent : List Sent) (es : List LogEntry) → IsSoundBook secret stated view es → FromBook (sources sent) es → length sent ≤ 2 ^ 24
+pub few-book : (secret : List ℕ) (stated : List Statement) (views : List View) (sent : List Sent) (es : List LogEntry) → IsSoundBook secret stated views es → FromBook (sources sent) es → length sent ≤ 2 ^ 24
     → length es < 2 ^ 28
-few-book secret stated view sent es book from few =
-    let most = few_entries secret stated view (sources sent) es book from in
+few-book secret stated views sent es book from few =
+    let most = few_entries secret stated views (sources sent) es book from in
     let long = length-map sent (λ (s : Sent). bytes_of s.content) in
     omega (arith, most, long, few)
 

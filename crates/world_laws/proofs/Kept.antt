@@ -1,4 +1,6 @@
 -- Whatever a crash leaves of a member's devices, it goes on from a front of the list, and the places of accepted replies are kept.
+use Rattle.world_laws.proofs.InForce.{first_in_force}
+use Rattle.world_laws.proofs.OneViews.{book_one}
 use Rattle.std.proofs.Common.{◌≡◌, inl, inr, ℕ, max, ◌+◌, ◌≤◌, ◌++◌, ◌==◌, ◌&&◌, ◌||◌, ◌∙◌, Bool, true, false, not, cond, List, [], ◌∷◌, length, take, drop, filter, subst, Option, IfSome, refl, ap, sym, arith, eqb-true, add-one, None, Some, ◌<◌}
 use Rattle.std.proofs.lemmas.Bool.{le-leb}
 use Rattle.std.proofs.lemmas.List.{length-take-le, take-take, take-append-le, take-append-drop}
@@ -177,11 +179,11 @@ left_made_diary m w h left b =
 -- ---- what is restored is not damaged
 
 parts_undamaged : {S : Type 0} (m : Meaning S) (secret : List ℕ) (stated : List Statement) (view : View) (chosen : List Batch) → AreRestorable m view chosen → (present : Option Checkpoint) (entries : List (List ℕ)) (book : List LogEntry)
-    → IsSoundBook secret stated view book → InstallUpTo (checkpoint_place present) book → Each FitsEntry book → IfSome present (λ (x : Checkpoint). IsSnapshotAt m view chosen x.snapshot) → entries ≡ map entry_text (cut_at (checkpoint_place present) book)
+    → IsSoundBook secret stated (views_after view chosen) book → InstallUpTo (checkpoint_place present) book → Each FitsEntry book → IfSome present (λ (x : Checkpoint). IsSnapshotAt m view chosen x.snapshot) → entries ≡ map entry_text (cut_at (checkpoint_place present) book)
     → damage_of m secret view (record { snapshot = option_map (λ x. x.snapshot) present; entries = entries }) ≡ None
 unfolding damage_of views_after
 parts_undamaged m secret stated view chosen a None entries book sound upto fits asked is =
-    ap (λ (es : List (List ℕ)). damaged secret 0 view es) is ∙ undamaged_cut secret stated view 0 book sound upto fits
+    ap (λ (es : List (List ℕ)). damaged secret 0 view es) is ∙ undamaged_cut secret stated view 0 book (book_one secret stated view chosen book sound) upto fits
 parts_undamaged {S = S} m secret stated view chosen a (Some x) entries book sound upto fits asked is =
     let chosen_front : List Batch = take asked.place chosen in
     let at : stated_place x.snapshot ≡ asked.place = snapshot_place m view chosen x.snapshot a.low asked in
@@ -189,7 +191,7 @@ parts_undamaged {S = S} m secret stated view chosen a (Some x) entries book soun
     ap (λ (o : Option (Replica S)). damaged_behind secret entries o) (snapshot_replica m a.service view chosen x.snapshot a.viewed a.begins a.low a.of asked)
     ∙ (ap (λ (vs : List View). damaged secret (state m view chosen_front).place (present_view vs) entries) (state_views m view chosen_front)
     ∙ (ap (λ (k : ℕ). damaged secret k view entries) place
-    ∙ (ap (λ (es : List (List ℕ)). damaged secret (stated_place x.snapshot) view es) is ∙ undamaged_cut secret stated view (stated_place x.snapshot) book sound upto fits)))
+    ∙ (ap (λ (es : List (List ℕ)). damaged secret (stated_place x.snapshot) view es) is ∙ undamaged_cut secret stated view (stated_place x.snapshot) book (book_one secret stated view chosen book sound) upto fits)))
 
 -- ---- the replica that goes on
 
@@ -372,7 +374,7 @@ enough_kept : {S : Type 0} (m : Meaning S) (w : World S) (a : Acceptance) → Ar
 enough_kept {S = S} m w a service r replied left may =
     let p : ℕ → Bool = has_replied w.faulty w.sent a in
     let q : ℕ → Bool = is_among w.faulty in
-    let few = (few_faulty w.view w.faulty r.1.viewed r.1.few).few in
+    let few = (few_faulty w.view w.faulty r.1.viewed (r.1.few w.view (first_in_force w))).few in
     let more = quorum-honest w.view r.1.viewed in
     let but = pass_but p q w.view.members in
     let pass = hosts_pass (λ id. is_member w.view id && honest_replied w a id) (has_place m w w.view left a.place) w.hosts

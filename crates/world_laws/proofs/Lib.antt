@@ -12,6 +12,8 @@ pub mod Additions
 pub mod Late
 pub mod CutSources
 pub mod Wholes
+pub mod OneViews
+pub mod InForce
 pub mod Given
 pub mod Asks
 pub mod Asking

@@ -1,4 +1,5 @@
 -- One list holds throughout a script.
+use Rattle.world_laws.proofs.InForce.{first_in_force}
 use Rattle.std.proofs.Common.{◌≡◌, ℕ, false, List, [], ◌∷◌, take, refl, sym, subst, Option, Some, None}
 use Rattle.std.specs.Prelude.{map}
 use Rattle.smart_base.specs.declared.party.Party.TheVariants.{Member}
@@ -43,7 +44,7 @@ use Rattle.world_laws.proofs.Asking.{ClientsRight, right-after}
 use Rattle.world_laws.proofs.Accepted.{AcceptedTold, Telling, executed-right, keeps-told, told-begun, accepted-right}
 use Rattle.replica_laws.specs.Lines.{IsExecuted}
 use Rattle.world_laws.proofs.Told.{lines-answered, lines-tell_all}
-use Rattle.world_laws.proofs.Added.{nodes-added}
+use Rattle.world_laws.proofs.Added.{nodes-added, nodes-grow}
 use Rattle.world_laws.proofs.Declared.{faulty-declared, rogue-declared}
 use Rattle.world_laws.proofs.ClientNames.{numbers-after}
 use Rattle.world_laws.proofs.Growing.{sent-grows, accepted-grows, diaries-grow}
@@ -76,7 +77,7 @@ telling m w is =
     record {
       reads = right-reads m w right;
       keeps = is.1.clients;
-      few = (right-witnessed m w right.1).few.few;
+      few = (right-witnessed m w right.1 w.view (first_in_force w)).few.few;
       executed = λ r has tagged correct. stated_executed m w is r (reply_there w.sent r has tagged) correct;
     }
 
@@ -170,6 +171,7 @@ one_list-throughout m brief service g is ls = record {
   viewed = λ k. view-stays m (begun m g) (take k ls);
   period = λ k. period-stays m (begun m g) (take k ls);
   nodes = nodes-added m g ls;
+  nodes_grow = nodes-grow m g ls;
   faulty = faulty-declared m g ls;
   rogue = rogue-declared m g ls;
   grows = list-grows m g ls;

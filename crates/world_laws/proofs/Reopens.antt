@@ -95,7 +95,7 @@ none_made k made = (made (omega arith)).there
 
 -- what a diary is from which a node goes on over a checkpoint of a place: it has made the place, installs nothing past it, and decides along the list
 pub record GoesBehind (secret : List ℕ) (stated : List Statement) (view : View) (place : ℕ) (batches : List Batch) (d : List LogEntry) : Type 0 where
-  pub sound : IsSoundBook secret stated view d
+  pub sound : IsSoundBook secret stated (views_after view batches) d
   pub made : 0 < place → HasMade d place
   pub upto : InstallUpTo place d
   pub along : AreAlong batches d
@@ -107,7 +107,7 @@ unfolding reopened
 behind_replica m secret id stated view period zero batches checkpoint [] is = refl
 behind_replica m secret id stated view period (suc k) batches checkpoint [] is = absurd (none_made k is.made)
 behind_replica {S = S} m secret id stated view period place batches checkpoint (e ∷ es) is =
-    ap (λ (n : Node S). n.replica) (cut_reopened m secret id stated view period place batches checkpoint e es is.sound is.made is.upto is.along)
+    ap (λ (n : Node S). n.replica) (cut_reopened m secret id stated view (views_after view batches) period place batches checkpoint e es is.sound is.made is.upto is.along)
 
 -- all that such a node holds has a spelling
 behind_fits : {S : Type 0} (secret : List ℕ) (m : Meaning S) → IsBrief m → (id : ℕ) (view : View) (period place : ℕ) (batches : List Batch) (checkpoint : Option OwnSnapshot) (es : List LogEntry) → IsSigner 1 id
@@ -150,5 +150,5 @@ fit_behind {S = S} secret m brief id stated view period zero batches checkpoint 
     subst (λ (o : Option OwnSnapshot). FitBook m secret (node_behind m secret id view period zero batches o [])) (sym (none refl)) (fit_opened secret m id view period named viewed low)
 fit_behind secret m brief id stated view period (suc k) batches checkpoint [] is none named viewed begins low few of own kept spelled = absurd (none_made k is.made)
 fit_behind {S = S} secret m brief id stated view period place batches checkpoint (e ∷ es) is none named viewed begins low few of own kept spelled =
-    subst (λ (n : Node S). FitBook m secret n) (sym (cut_reopened m secret id stated view period place batches checkpoint e es is.sound is.made is.upto is.along))
+    subst (λ (n : Node S). FitBook m secret n) (sym (cut_reopened m secret id stated view (views_after view batches) period place batches checkpoint e es is.sound is.made is.upto is.along))
     (record { node = behind_fits secret m brief id view period place batches checkpoint (e ∷ es) named viewed begins few of own kept spelled; book = cut_each FitsEntry place (e ∷ es) spelled })

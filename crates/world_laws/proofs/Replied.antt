@@ -1,4 +1,5 @@
 -- A client accepts a reply where a quorum of members has sent it, but for those that are faulty.
+use Rattle.replica_rules.specs.Replicas.{views_after}
 use Rattle.std.proofs.Common.{◌≡◌, ⊎_elim, ℕ, zero, suc, ◌+◌, ◌++◌, ◌==◌, Bool, true, false, ◌&&◌, ◌||◌, List, [], ◌∷◌, refl, sym, arith, Some, inl, inr, subst, eq-eqb, append-nil}
 use Rattle.smart_base.specs.declared.party.Party.{Party}
 use Rattle.node_rules.specs.Nodes.{view_of}
@@ -141,10 +142,10 @@ holds (s ∷ sent) x has =
     ]
 
 -- a reply of a member's own is for the client that it names
-own_for : (view : View) (id : ℕ) (to : List Party) (r : SignedBy Answer) (client : ℕ) → IsOwnSent view (origins.Node id) to (contents.Message (Reply r)) → r.statement.client ≡ client → is_for client to ≡ true
-own_for view id to r client own same =
+own_for : (views : List View) (id : ℕ) (to : List Party) (r : SignedBy Answer) (client : ℕ) → IsOwnSent views (origins.Node id) to (contents.Message (Reply r)) → r.statement.client ≡ client → is_for client to ≡ true
+own_for views id to r client own same =
     subst (λ (ps : List Party). is_for client ps ≡ true) (sym own.addressed)
-    (subst (λ (t : Target). is_for client (heard_by view t) ≡ true) (sym own.own.1) (or_left (client == r.statement.client) false (eq-eqb client r.statement.client (sym same))))
+    (subst (λ (t : Target). is_for client (heard_by own.view t) ≡ true) (sym own.own.1) (or_left (client == r.statement.client) false (eq-eqb client r.statement.client (sym same))))
 
 -- where what was sent is read, each one's own and not forged, a member whose reply was sent has sent it, or it is faulty
 sent_reply : {S : Type 0} (m : Meaning S) (w : World S) (r : SignedBy Answer) (a : Acceptance) → RightBorne m w → HasMessage w.sent (Reply r) → is_verified answers group_secret r ≡ true
@@ -166,15 +167,15 @@ sent_reply {S = S} m w r a right has tagged client is = by (is_among w.faulty r.
     mine source =
         let s : Sent = source.message in
         let same : s.content ≡ contents.Message (Reply r) = reply_content s.content r source.states in
-        let own : IsOwnSent w.view s.origin s.to s.content = each_among (λ (t : Sent). IsOwnSent w.view t.origin t.to t.content) w.sent s right.1.sent.own source.there in
-        let own_node : IsOwnSent w.view (origins.Node r.signer) s.to (contents.Message (Reply r)) =
-        subst (λ (x : Content). IsOwnSent w.view (origins.Node r.signer) s.to x) same (subst (λ (o : Origin). IsOwnSent w.view o s.to s.content) source.from own) in
+        let own : IsOwnSent (views_after w.view w.chosen) s.origin s.to s.content = each_among (λ (t : Sent). IsOwnSent (views_after w.view w.chosen) t.origin t.to t.content) w.sent s right.1.sent.own source.there in
+        let own_node : IsOwnSent (views_after w.view w.chosen) (origins.Node r.signer) s.to (contents.Message (Reply r)) =
+        subst (λ (x : Content). IsOwnSent (views_after w.view w.chosen) (origins.Node r.signer) s.to x) same (subst (λ (o : Origin). IsOwnSent (views_after w.view w.chosen) o s.to s.content) source.from own) in
         among_any test s w.sent source.there
         (passes s same
         (or_right (is_among w.faulty r.signer) (is_of r.signer s.origin && is_for a.request.client s.to)
         (and_from (is_of r.signer s.origin) (is_for a.request.client s.to)
         (subst (λ (o : Origin). is_of r.signer o ≡ true) (sym source.from) (eq-eqb r.signer r.signer refl))
-        (own_for w.view r.signer s.to r a.request.client own_node client))))
+        (own_for (views_after w.view w.chosen) r.signer s.to r a.request.client own_node client))))
 
     by : (t : Bool) → is_among w.faulty r.signer ≡ t → has_replied w.faulty w.sent a r.signer ≡ true
     by true breaks =

@@ -1,4 +1,5 @@
 -- A step leaves a node at its place of the list. What it installs is the state that more than f members marked.
+use Rattle.world_laws.proofs.OneViews.{planned_one}
 use Rattle.std.proofs.Common.{◌≡◌, ℕ, zero, suc, ◌+◌, ◌<◌, ◌≤◌, ◌++◌, ◌∙◌, Bool, true, List, [], ◌∷◌, length, take, ap, sym, arith, subst, Option, Some, None}
 use Rattle.std.proofs.lemmas.List.{length-take-le}
 use Rattle.std.specs.Prelude.{IfSome, slice_get}
@@ -74,9 +75,9 @@ module _ {S : Type 0} (m : Meaning S) (secret : List ℕ) (stated : List Stateme
             ∙ (sym (state_next m view chosen n.replica.place batch here) ∙ ap (λ (k : ℕ). state m view (take k chosen)) (sym next));
       })
 
-  stands_planned : (fetch : Option Fetch) (f : Fetch) → fetch ≡ Some f → IfSome fetch (λ (x : Fetch). IsPlanned n.secret view stated x.plan) → IsPlanned n.secret view stated f.plan
+  stands_planned : (fetch : Option Fetch) (f : Fetch) → fetch ≡ Some f → IfSome fetch (λ (x : Fetch). IsPlanned n.secret n.replica.views stated x.plan) → IsPlanned n.secret n.replica.views stated f.plan
   stands_planned None f is planned = absurd (cc)
-  stands_planned (Some x) f is planned = subst (λ (y : Fetch). IsPlanned n.secret view stated y.plan) (some_equal x f is) planned
+  stands_planned (Some x) f is planned = subst (λ (y : Fetch). IsPlanned n.secret n.replica.views stated y.plan) (some_equal x f is) planned
 
   stands_met : (fetch : Option Fetch) (f : Fetch) → fetch ≡ Some f → IsFetchMet sent marked fetch → are_all_there f ≡ true → (joined_of f ≡ [] → ⊥) → IsTextMet sent marked (joined_of f)
   stands_met None f is texts = absurd (cc)
@@ -85,8 +86,9 @@ module _ {S : Type 0} (m : Meaning S) (secret : List ℕ) (stated : List Stateme
 
   installs : (f : Fetch) (r : Replica S) → IsReady n f → are_all_there f ≡ true → IsTakenFrom m f r → IsStateAt m view chosen r
   installs f r due all taken =
-      let planned : IsPlanned secret view stated f.plan = subst (λ (s : List ℕ). IsPlanned s view stated f.plan) shared (stands_planned n.fetch f due.stands sound.fetch) in
-      let text = certified_text m secret view chosen sent marked faulty diary stated f.plan.place f.plan.digest f.plan.marks (joined_of f) witnessed right exact planned.certified planned.drawn
+      let planned : IsPlanned secret n.replica.views stated f.plan = subst (λ (s : List ℕ). IsPlanned s n.replica.views stated f.plan) shared (stands_planned n.fetch f due.stands sound.fetch) in
+      let certified = planned_one m secret stated view chosen n f.plan at planned in
+      let text = certified_text m secret view chosen sent marked faulty diary stated f.plan.place f.plan.digest f.plan.marks (joined_of f) witnessed right exact certified planned.drawn
       (stands_met n.fetch f due.stands met all (some-joined m f r taken)) taken.digest_is in
       let state_is : r ≡ state m view (take text.1.place chosen) = certified_replica m view chosen (joined_of f) r may text.1 taken.read in
       let long : length (take text.1.place chosen) ≡ text.1.place = length-take-le text.1.place chosen text.1.within in
@@ -97,8 +99,9 @@ module _ {S : Type 0} (m : Meaning S) (secret : List ℕ) (stated : List Stateme
   -- the text that it joined is a snapshot of the list
   pub installed-text : (f : Fetch) (r : Replica S) → IsReady n f → are_all_there f ≡ true → IsTakenFrom m f r → IsSnapshotAt m view chosen (joined_of f)
   installed-text f r due all taken =
-      let planned : IsPlanned secret view stated f.plan = subst (λ (s : List ℕ). IsPlanned s view stated f.plan) shared (stands_planned n.fetch f due.stands sound.fetch) in
-      (certified_text m secret view chosen sent marked faulty diary stated f.plan.place f.plan.digest f.plan.marks (joined_of f) witnessed right exact planned.certified planned.drawn
+      let planned : IsPlanned secret n.replica.views stated f.plan = subst (λ (s : List ℕ). IsPlanned s n.replica.views stated f.plan) shared (stands_planned n.fetch f due.stands sound.fetch) in
+      let certified = planned_one m secret stated view chosen n f.plan at planned in
+      (certified_text m secret view chosen sent marked faulty diary stated f.plan.place f.plan.digest f.plan.marks (joined_of f) witnessed right exact certified planned.drawn
       (stands_met n.fetch f due.stands met all (some-joined m f r taken)) taken.digest_is).1
 
   pub moved-at : (r : Replica S) → Moves m n r → IsStateAt m view chosen r

@@ -1,4 +1,5 @@
 -- What a script injects is forged by nobody: each statement in it is of one who is excused, or stands in a message of its signer's own.
+use Rattle.replica_rules.specs.Replicas.{views_after}
 use Rattle.std.proofs.Common.{◌≡◌, ⊎_elim, ℕ, ◌++◌, ◌&&◌, ◌||◌, Bool, true, false, not, List, [], ◌∷◌, refl, sym, ap, ◌∙◌, subst, eqb-true, inl, inr, ◌⊎◌, Option, Some, None}
 use Rattle.node_rules.specs.Nodes.{view_of}
 use Rattle.std.specs.Prelude.{map}
@@ -336,19 +337,19 @@ reply_content (contents.Message m) a there =
 reply_content (contents.Raw bytes) a there = absurd there
 
 -- a reply that a node has sent as its own names it as its signer, and no client sends one
-node_reply : (view : View) (id : ℕ) (to : List Party) (c : Content) (a : SignedBy Answer) → IsNodes view id to c → c ≡ contents.Message (Reply a) → a.signer ≡ id
-node_reply view id to c a own is = (subst (λ (x : Content). IsForTarget id own.target x) is own.own).0
+node_reply : (views : List View) (id : ℕ) (to : List Party) (c : Content) (a : SignedBy Answer) → IsNodes views id to c → c ≡ contents.Message (Reply a) → a.signer ≡ id
+node_reply views id to c a own is = (subst (λ (x : Content). IsForTarget id own.target x) is own.own).0
 
-client_reply : (view : View) (id : ℕ) (to : List Party) (c : Content) (a : SignedBy Answer) → IsClients view id to c → c ≡ contents.Message (Reply a) → ⊥
-client_reply view id to c a own is = subst (λ (x : Content). IsAskOf id x) is own.own
+client_reply : (views : List View) (id : ℕ) (to : List Party) (c : Content) (a : SignedBy Answer) → IsClients views id to c → c ≡ contents.Message (Reply a) → ⊥
+client_reply views id to c a own is = subst (λ (x : Content). IsAskOf id x) is own.own
 
 -- a reply of a member that is not faulty stands in a message that its own node has sent, in whosever message it stands
-pub member_states : {S : Type 0} (w : World S) (id : ℕ) (a : SignedBy Answer) → Each (λ s. IsRead s.content) w.sent → Each (λ s. IsOwnSent w.view s.origin s.to s.content) w.sent → Unforged w
+pub member_states : {S : Type 0} (w : World S) (id : ℕ) (a : SignedBy Answer) → Each (λ s. IsRead s.content) w.sent → Each (λ s. IsOwnSent (views_after w.view w.chosen) s.origin s.to s.content) w.sent → Unforged w
     → is_among w.faulty id ≡ false → a.signer ≡ id → Among (Replied a) (stated w.sent) → NodeStates w.sent id (Replied a)
 member_states {S = S} w id a read own fine correct who there =
     let x : Statement = Replied a in
     let found = stated_stands w.sent x there in
-    by found.message.origin found (each_among (λ (t : Sent). IsOwnSent w.view t.origin t.to t.content) w.sent found.message own found.there)
+    by found.message.origin found (each_among (λ (t : Sent). IsOwnSent (views_after w.view w.chosen) t.origin t.to t.content) w.sent found.message own found.there)
     (each_among (λ (t : Sent). IsFine w.faulty w.rogue w.sent t.origin t.content) w.sent found.message fine.each found.there) refl
   where
     no_other : true ≡ false → ⊥
@@ -357,10 +358,10 @@ member_states {S = S} w id a read own fine correct who there =
     here : (found : Stands w.sent (Replied a)) → found.message.origin ≡ origins.Node id → NodeStates w.sent id (Replied a)
     here found from = record { message = found.message; there = found.there; from = from; states = found.states }
 
-    by : (o : Origin) (found : Stands w.sent (Replied a)) → IsOwnSent w.view o found.message.to found.message.content → IsFine w.faulty w.rogue w.sent o found.message.content → found.message.origin ≡ o → NodeStates w.sent id (Replied a)
+    by : (o : Origin) (found : Stands w.sent (Replied a)) → IsOwnSent (views_after w.view w.chosen) o found.message.to found.message.content → IsFine w.faulty w.rogue w.sent o found.message.content → found.message.origin ≡ o → NodeStates w.sent id (Replied a)
     by (origins.Node j) found own fine is =
-        here found (is ∙ ap (λ (k : ℕ). origins.Node k) (sym (node_reply w.view j found.message.to found.message.content a own (reply_content found.message.content a found.states)) ∙ who))
-    by (origins.Client j) found own fine is = absurd (client_reply w.view j found.message.to found.message.content a own (reply_content found.message.content a found.states))
+        here found (is ∙ ap (λ (k : ℕ). origins.Node k) (sym (node_reply (views_after w.view w.chosen) j found.message.to found.message.content a own (reply_content found.message.content a found.states)) ∙ who))
+    by (origins.Client j) found own fine is = absurd (client_reply (views_after w.view w.chosen) j found.message.to found.message.content a own (reply_content found.message.content a found.states))
     by origins.Script found own fine is =
         ⊎_elim (λ excused. absurd (no_other (sym (subst (λ (k : ℕ). is_among w.faulty k ≡ true) who excused) ∙ correct)))
         (λ mine. here mine.stands (from_member id mine.stands.message.origin (subst (λ (k : ℕ). is_from (parties.Member k) mine.stands.message.origin ≡ true) who mine.from)))

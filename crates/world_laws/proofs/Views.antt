@@ -1,4 +1,4 @@
--- A step keeps the view that a node is in. INTERIM(views)
+-- A step keeps the views that a node knows. INTERIM(views)
 use Rattle.std.proofs.Common.{◌≡◌, Bool, true, false, cond, List, [], ◌∷◌, refl, ap, ◌∙◌, Option, Some, None, Result, Ok, Err}
 use Rattle.smart_base.specs.Views.{View, present}
 use Rattle.smart_statements.specs.Batches.{Batch}
@@ -107,6 +107,8 @@ knows-in_steps m views = record {
 }
 
 -- a step
+pub views-step : {S : Type 0} (m : Meaning S) (n : Node S) (event : NodeEvent) → (step_of m n event).node.replica.views ≡ n.replica.views
+views-step {S = S} m n event = keeps_step m (λ (x : Node S). Knows n.replica.views x) (λ message. Unit {0}) n event (knows-in_steps m n.replica.views) (free-event event) refl
+
 pub view-step : {S : Type 0} (m : Meaning S) (n : Node S) (event : NodeEvent) → view_of (step_of m n event).node ≡ view_of n
-view-step {S = S} m n event =
-    ap present (keeps_step m (λ (x : Node S). Knows n.replica.views x) (λ message. Unit {0}) n event (knows-in_steps m n.replica.views) (free-event event) refl)
+view-step m n event = ap present (views-step m n event)

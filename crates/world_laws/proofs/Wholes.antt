@@ -43,11 +43,11 @@ one_place (suc a) zero same = absurd (cc)
 one_place (suc a) (suc b) same = cc
 
 -- the last place that all that was written makes is the last that the node has decided
-pub whole_last : {S : Type 0} (secret : List ℕ) (stated : List Statement) (view : View) (whole : List LogEntry) (n : Node S) → IsSoundBook secret stated view whole → IsSound stated view n
+pub whole_last : {S : Type 0} (secret : List ℕ) (stated : List Statement) (view : View) (views : List View) (whole : List LogEntry) (n : Node S) → IsSoundBook secret stated views whole → IsSound stated view n
     → n.entries ≡ cut_at n.opening whole → last_made whole ≡ decided_place n
-whole_last secret stated view whole n book sound cut =
+whole_last secret stated view views whole n book sound cut =
     one_place (last_made whole) (decided_place n)
-    (sym (latest_is secret stated view whole book) ∙ (sym (cut_latest n.opening whole) ∙ (ap (λ (es : List LogEntry). latest_made es) (sym cut) ∙ sound.latest)))
+    (sym (latest_is secret stated views whole book) ∙ (sym (cut_latest n.opening whole) ∙ (ap (λ (es : List LogEntry). latest_made es) (sym cut) ∙ sound.latest)))
 
 -- a place that was made is no later than the last
 pub made_low : (place : ℕ) (d : List LogEntry) → (0 < place → HasMade d place) → place ≤ last_made d

@@ -1,4 +1,5 @@
 -- What members have stated is witnessed by what became firm at them.
+use Rattle.world_laws.specs.InForce.{IsInForce}
 use Rattle.std.proofs.Common.{◌≡◌, ⊎_elim, ◌⊎◌, ℕ, zero, suc, ◌+◌, ◌*◌, ◌^◌, ◌<◌, ◌≤◌, arith, ◌==◌, ◌&&◌, ◌||◌, Bool, true, false, List, [], ◌∷◌, ◌++◌, take, length, filter, refl, ap, sym, ◌∙◌, subst, inl, inr, Option, Some, eqb-true, eq-eqb, nat_le, append-nil, drop, append_assoc, length-append}
 use Rattle.std.proofs.lemmas.Bool.{ltb-false, leb-true, or_parts}
 use Rattle.std.proofs.lemmas.Grind.{flat_map-append}
@@ -267,7 +268,7 @@ pub firm_parts : {S : Type 0} (n : Node S) (first later d : List LogEntry) → d
 firm_parts n first later d both firm made = firm ∙ (ap (λ (es : List LogEntry). cut_at n.opening es) both ∙ cut_more n.opening first later made)
 
 -- the diary of a life that began with some
-shown_behind : {S : Type 0} (stated : List Statement) (view : View) (n : Node S) (first later d : List LogEntry) (x : Held) → IsSound stated view n → IsSoundBook n.secret stated view first → d ≡ first ++ later
+shown_behind : {S : Type 0} (stated : List Statement) (view : View) (n : Node S) (first later d : List LogEntry) (x : Held) → IsSound stated view n → IsSoundBook n.secret stated n.replica.views first → d ≡ first ++ later
     → take n.firm n.entries ≡ cut_at n.opening d → n.restored ≡ length (cut_at n.opening first) → (0 < n.opening → HasMade first n.opening) → n.firm ≤ length n.entries → (first ≡ [] → ⊥) → Among x n.held → x.needs ≤ n.firm
     → Each (λ s. Among s stated ⊎ ((signer_of s ≡ Member n.id) × IsShown digest_of d s)) (statements n.secret x.message)
 shown_behind {S = S} stated view n first later d x is book both firm count made most some there low =
@@ -283,7 +284,7 @@ shown_behind {S = S} stated view n first later d x is book both firm count made 
     (shown_written stated view n first (later ++ rest) (length later) x is book entries count made some there (omega (arith, low, taken, long, count)))
 
 -- each statement of a message that a running node holds, if it waits for firm entries alone, has been stated, or is the member's own and shown by its diary
-pub running_shown : {S : Type 0} (stated : List Statement) (view : View) (n : Node S) (first later d : List LogEntry) (x : Held) → IsSound stated view n → IsSoundBook n.secret stated view first → d ≡ first ++ later
+pub running_shown : {S : Type 0} (stated : List Statement) (view : View) (n : Node S) (first later d : List LogEntry) (x : Held) → IsSound stated view n → IsSoundBook n.secret stated n.replica.views first → d ≡ first ++ later
     → take n.firm n.entries ≡ cut_at n.opening d → n.restored ≡ length (cut_at n.opening first) → (0 < n.opening → HasMade first n.opening) → n.firm ≤ length n.entries → Among x n.held → x.needs ≤ n.firm
     → Each (λ s. Among s stated ⊎ ((signer_of s ≡ Member n.id) × IsShown digest_of d s)) (statements n.secret x.message)
 running_shown {S = S} stated view n [] later d x is book both firm count made most there low =
@@ -329,9 +330,9 @@ few_faulty v faulty is few =
     record { room = leb-true (3 * v.f + 1) (length v.members) c.1; few = ltb-false v.f (length (filter (is_among faulty) v.members)) few }
 
 -- a host of the group whose diary is sound
-pub record HostStands {S : Type 0} (stated : List Statement) (view : View) (h : Host S) : Type 0 where
+pub record HostStands {S : Type 0} (w : World S) (h : Host S) : Type 0 where
   pub lawful : Lawful 0 0 h.life.diary
-  pub backed : Each (IsBacked group_secret digest_of view stated) h.life.diary
+  pub backed : (v : View) → IsInForce w v → Each (IsBacked group_secret digest_of v (stated w.sent)) h.life.diary
 
 -- what holds of each host's firm entries, holds of a member's diary
 by_host : {S : Type 0} (P : List LogEntry → Type 0) → P [] → (hosts : List (Host S)) → Each (λ h. P (firm_of h)) hosts → (member : ℕ) → P (diary_of (host_of hosts member))
@@ -361,12 +362,12 @@ none_lawful before entry after split = absurd (apart before split)
     apart (e ∷ es) same = cc
 
 -- where all hosts are such, and show what has been stated, each member's diary does
-pub witness-of : {S : Type 0} (w : World S) → Each (HostStands (stated w.sent) w.view) w.hosts → AllShown w.faulty (stated w.sent) w.hosts → (member : ℕ) → IsWitness w member
+pub witness-of : {S : Type 0} (w : World S) → Each (HostStands w) w.hosts → AllShown w.faulty (stated w.sent) w.hosts → (member : ℕ) → IsWitness w member
 witness-of {S = S} w hosts all member = record {
   lawful = by_host (λ (es : List LogEntry). Lawful 0 0 es) none_lawful w.hosts
-      (each-weaken (HostStands (stated w.sent) w.view) (λ (h : Host S). Lawful 0 0 (firm_of h)) (λ h is. is.lawful) w.hosts hosts) member;
-  backed = by_host (Each (IsBacked group_secret digest_of w.view (stated w.sent))) tt w.hosts
-      (each-weaken (HostStands (stated w.sent) w.view) (λ (h : Host S). Each (IsBacked group_secret digest_of w.view (stated w.sent)) (firm_of h)) (λ h is. is.backed) w.hosts hosts) member;
+      (each-weaken (HostStands w) (λ (h : Host S). Lawful 0 0 (firm_of h)) (λ h is. is.lawful) w.hosts hosts) member;
+  backed = λ v force. by_host (Each (IsBacked group_secret digest_of v (stated w.sent))) tt w.hosts
+      (each-weaken (HostStands w) (λ (h : Host S). Each (IsBacked group_secret digest_of v (stated w.sent)) (firm_of h)) (λ h is. is.backed v force) w.hosts hosts) member;
   shown = λ x there who correct. shown_at w.faulty x w.hosts member (all x there).0 (named x there who correct) who correct;
 }
   where
@@ -377,14 +378,14 @@ witness-of {S = S} w hosts all member = record {
     named x there who correct =
         ⊎_elim {C = list_any (λ k. k == member) (names w.hosts) ≡ true} (λ gone. absurd (both (sym gone ∙ correct))) (λ here. here) ((all x there).1 member who)
 
--- and where few are faulty, it is witnessed
-pub witnessing : {S : Type 0} (w : World S) → is_view w.view ≡ true → too_many w.view w.faulty ≡ false → ((member : ℕ) → IsWitness w member)
-    → Witnessed group_secret digest_of w.view (is_among w.faulty) (diary w) (stated w.sent)
-witnessing w viewed few each =
+-- and where few of a view in force are faulty, it is witnessed there
+pub witnessing : {S : Type 0} (w : World S) (v : View) → IsInForce w v → is_view v ≡ true → too_many v w.faulty ≡ false → ((member : ℕ) → IsWitness w member)
+    → Witnessed group_secret digest_of v (is_among w.faulty) (diary w) (stated w.sent)
+witnessing w v force viewed few each =
     record {
-      few = few_faulty w.view w.faulty viewed few;
+      few = few_faulty v w.faulty viewed few;
       lawful = λ member correct. (each member).lawful;
-      backed = λ member correct. (each member).backed;
+      backed = λ member correct. (each member).backed v force;
       shown = λ member correct x there who. (each member).shown x there who correct.correct;
       closed = stated_closed w.sent;
     }

@@ -46,6 +46,7 @@ use Rattle.world_rules.specs.declared.line.OutLine.TheVariants as outs
 use Rattle.world_rules.specs.declared.message.Sent.{Sent}
 use Rattle.world_rules.specs.declared.message.Origin.TheVariants as origins
 use Rattle.world_rules.specs.declared.line.Header.{Header}
+use Rattle.world_laws.specs.InForce.{IsInForce}
 
 -- a waiting batch, if there is one, that is the list's batch at a place
 abbrev pub IsNext : List Batch → ℕ → Option Batch → Type 0
@@ -174,18 +175,18 @@ unfoldable pub numbers_from : ℕ → ℕ → List ℕ
 numbers_from zero i = []
 numbers_from (suc count) i = i ∷ numbers_from count (i + 1)
 
--- A member's diary, whether the member is one of a view or has only a node. It is lawful, and rests on what has been stated. It shows each
--- statement of the member, in whichever message it stands, unless the member is faulty. INTERIM(views): it rests on votes of one view
+-- A member's diary, whether the member is one of a view or has only a node. It is lawful, and rests on what has been stated in each view in
+-- force. It shows each statement of the member, in whichever message it stands, unless the member is faulty.
 pub record IsWitness {S : Type 0} (w : World S) (member : ℕ) : Type 0 where
   pub lawful : Lawful 0 0 (diary w member)
-  pub backed : Each (IsBacked group_secret digest_of w.view (stated w.sent)) (diary w member)
+  pub backed : (v : View) → IsInForce w v → Each (IsBacked group_secret digest_of v (stated w.sent)) (diary w member)
   pub shown : (s : Statement) → Among s (stated w.sent) → signer_of s ≡ Member member → is_among w.faulty member ≡ false → IsShown digest_of (diary w member) s
 
 -- One list at a moment of a play. Each node has delivered a front of it, also a node that is gone, has stopped, or is no member. Whatever
 -- crashes leave of a node's devices, it restarts from a front of the list. Each member of the view that the group begins with has a node. No
--- member has two. Each number from 0 to 1,024 has one client. Each node's diary is lawful, and shows what the node has stated. Each reply that
--- a node holds or a correct member has stated is right. Each accepted reply is right, a quorum has given it, and its place is kept. A client
--- accepts one reply to each number. What a node or a client has sent is its own. A node's votes, replies and reports rest on what became firm
+-- member has two. Each number from 0 to 1,024 has one client. Each node's diary is lawful. A correct node's shows what it has stated. Each
+-- reply that a node holds or a correct member has stated is right. Each accepted reply is right, a quorum has given it, and its place is kept.
+-- A client accepts one reply to each number. What a node or a client has sent is its own. A node's votes, replies and reports rest on what became firm
 -- there.
 pub record OneList {S : Type 0} (m : Meaning S) (w : World S) : Type 0 where
   pub members : filter (is_member w.view) (map (λ h. h.node.id) w.hosts) ≡ w.view.members
@@ -407,8 +408,8 @@ HasRestarted {S = S} m before after member =
     → slice_get after.hosts i ≡ Some (host_resumed h (reopened_from m group_secret h.node.id before.view before.period (parts_held h)))
 
 -- One list throughout a play: it holds after each line. The view that the group begins with stays, and so does its period. The nodes are
--- those of that view's members and those that a line has added. The faulty members and the rogue clients are those that a line has declared.
--- The list, what was sent, what was accepted and each diary only grow. Each transcript line of an accepted reply tells the service's answer
+-- those of that view's members and those that a line has added, and none is lost. The faulty members and the rogue clients are those that a
+-- line has declared. The list, what was sent, what was accepted and each diary only grow. Each transcript line of an accepted reply tells the service's answer
 -- on the list. The transcript tells each accepted reply once, in order, and no other. It tells the deliveries of each node once, in order,
 -- through all its lives, and no other. Each node goes on from the place that the last line of its restart or installation tells. After a
 -- line that restarts a crashed member, its node runs, from what its devices hold. After a line that tells a client what another knows, the
@@ -423,6 +424,7 @@ pub record OneListThroughout {S : Type 0} (m : Meaning S) (g : Header) (ls : Lis
   pub viewed : (k : ℕ) → (world_at m g ls k).view ≡ g.view
   pub period : (k : ℕ) → (world_at m g ls k).period ≡ g.period
   pub nodes : (k : ℕ) → AreAdded (take k ls) (world_at m g ls k)
+  pub nodes_grow : (j k : ℕ) → j ≤ k → (id : ℕ) → has_member (world_at m g ls j) id ≡ true → has_member (world_at m g ls k) id ≡ true
   pub faulty : (k : ℕ) → AreDeclared (λ member. lines.Faulty member) (take k ls) (world_at m g ls k).ending (world_at m g ls k).faulty
   pub rogue : (k : ℕ) → AreDeclared (λ client. lines.Rogue client) (take k ls) (world_at m g ls k).ending (world_at m g ls k).rogue
   pub grows : (j k : ℕ) → j ≤ k → take (length (world_at m g ls j).chosen) (world_at m g ls k).chosen ≡ (world_at m g ls j).chosen

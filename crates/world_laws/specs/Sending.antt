@@ -30,14 +30,18 @@ use Rattle.world_rules.specs.declared.message.Origin.{Origin}
 use Rattle.world_rules.specs.declared.message.Origin.TheVariants as origins
 use Rattle.world_rules.specs.declared.message.Sent.{Sent}
 use Rattle.world_rules.specs.Injections.{message_in}
+use Rattle.vote_book.specs.Books.{Among}
+use Rattle.replica_rules.specs.Replicas.{views_after}
 
 -- a content that a node may send for a target: a message of its own, or a client's request that it passes on to one member
 abbrev pub IsForTarget : ℕ → Target → Content → Type 0
 IsForTarget id target (contents.Message message) = IsOwn id target message
 IsForTarget id target (contents.Raw bytes) = ⊥
 
--- A content that a node may send to some parties: they are those that hear its target in a view. INTERIM(views): that is the group's view.
-pub record IsNodes (view : View) (id : ℕ) (to : List Party) (content : Content) : Type 0 where
+-- a content that a node may send to some parties: they are those that hear its target in one of some views
+pub record IsNodes (views : List View) (id : ℕ) (to : List Party) (content : Content) : Type 0 where
+  pub view : View
+  pub known : Among view views
   pub target : Target
   pub addressed : to ≡ heard_by view target
   pub own : IsForTarget id target content
@@ -51,17 +55,19 @@ abbrev pub IsAskOf : ℕ → Content → Type 0
 IsAskOf id (contents.Message message) = IsRequestOf id message
 IsAskOf id (contents.Raw bytes) = ⊥
 
--- A content that a client may send to some parties: a request of its own, to the members of a view. INTERIM(views): that is the group's view.
-pub record IsClients (view : View) (id : ℕ) (to : List Party) (content : Content) : Type 0 where
+-- a content that a client may send to some parties: a request of its own, to the members of one of some views
+pub record IsClients (views : List View) (id : ℕ) (to : List Party) (content : Content) : Type 0 where
+  pub view : View
+  pub known : Among view views
   pub addressed : to ≡ heard_by view targets.View
   pub own : IsAskOf id content
 
--- a content that its origin may send in a view: nodes and clients send their own messages, nodes pass on clients' requests, and what a script injects
+-- a content that its origin may send in some views: nodes and clients send their own messages, nodes pass on clients' requests, and what a script injects
 -- is for nobody
-abbrev pub IsOwnSent : View → Origin → List Party → Content → Type 0
-IsOwnSent view (origins.Node id) to content = IsNodes view id to content
-IsOwnSent view (origins.Client id) to content = IsClients view id to content
-IsOwnSent view origins.Script to content = to ≡ []
+abbrev pub IsOwnSent : List View → Origin → List Party → Content → Type 0
+IsOwnSent views (origins.Node id) to content = IsNodes views id to content
+IsOwnSent views (origins.Client id) to content = IsClients views id to content
+IsOwnSent views origins.Script to content = to ≡ []
 
 -- bytes that are read as no message
 pub record IsUnread (bytes : List ℕ) : Type 0 where
@@ -181,5 +187,5 @@ IsBorne hosts origins.Script content = Unit {0}
 
 -- A world in which each message is one that its origin may send. A node's vote, reply or report rests on entries that became firm there.
 pub record SentFirm {S : Type 0} (w : World S) : Type 0 where
-  pub own : Each (λ s. IsOwnSent w.view s.origin s.to s.content) w.sent
+  pub own : Each (λ s. IsOwnSent (views_after w.view w.chosen) s.origin s.to s.content) w.sent
   pub borne : Each (λ s. IsBorne w.hosts s.origin s.content) w.sent

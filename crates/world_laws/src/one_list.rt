@@ -12,8 +12,9 @@ use smart_service::service::Service;
 /// One list of batches holds after each line of every script, for any group (state machine
 /// replication).
 ///
-/// A script may inject anything in the names of up to f faulty members and of rogue clients. It may
-/// crash any members, and their devices may then hold whatever a crash can leave.
+/// A script may inject anything in the names of up to f faulty members of the view, of faulty nodes
+/// that are no members, and of rogue clients. It may add nodes. It may crash any members, and their
+/// devices may then hold whatever a crash can leave.
 ///
 /// *Delivery.* Each node has delivered a front of the list, also a faulty member's, a crashed one's
 /// and one of no member. Its service, its table of clients and its views are the state after that

@@ -17,8 +17,9 @@ use smart_service::service::Service;
 /// While a member's node runs, the firm part of the node's book is the cut of the diary at a place.
 /// That is the place of the checkpoint with which this life began, 0 without one. After the member has
 /// crashed, its devices restore the cut of the diary, at the place of their newest checkpoint. The
-/// diary has made either place, if it is not 0. At most f members are declared faulty. The diary of
-/// every other member is lawful. It rests on votes of quorums and on reports that have been stated.
+/// diary has made either place, if it is not 0. At most f members of
+/// the view are declared faulty. Each diary is lawful, and rests on votes of quorums and on reports
+/// that have been stated.
 ///
 /// The diary shows each statement of its member, in whichever message it stands. It shows a vote by
 /// its entry, a report by its promise and what stands before it, and a reply by having reached its

@@ -103,8 +103,8 @@ pub enum Line {
     /// `show`: the place, view and regency of each member. Of each client that has asked, also the
     /// greatest place that it knows.
     Show,
-    /// `node M`: a new node of a member that has none. It is in the view that the group begins with, in
-    /// which it is no member. Its devices hold nothing.
+    /// `node M`: a new node of a member that has none. It knows the view that the group begins with,
+    /// and is no member of it. Its devices hold nothing.
     Node {
         member: MemberId,
     },

@@ -1,6 +1,7 @@
 use Rattle.std.proofs.Common.{Ok, Err, ap, arith}
 use Rattle.log_lane.specs.Lane.{lane_heard_put}
 use Rattle.node_endings.proofs.Faults.{fell_none, fell_after, disk_failed}
+use Rattle.node_loops.proofs.Ends.{not_done}
 use Rattle.node_loops.proofs.Chained.{no_rounds, more_rounds}
 use Rattle.node_loops.proofs.loops.log_loop.Goals as goal
 
@@ -26,6 +27,37 @@ loop-preserved g c =
       rounds = more_rounds d.told d.remembers d.cells d.moment d.left_since g.E.Stops.stops g.S.Service.meaning g.P.Life.opening g.H.Home.restored _ _ _ _ _ _ _ _ _ (Ok c.in_default.field-0) i.whole i.rounds e.done e.failed e.whole e.fails;
     }
 
+-- ---- nothing more happens to the node
+
+pub returns-then-is_over-clause-rose : goal.returns-then-is_over-clause-rose
+returns-then-is_over-clause-rose g c = c.loop.invariant.rose
+
+pub returns-then-is_over-clause-raised : goal.returns-then-is_over-clause-raised
+returns-then-is_over-clause-raised g c = λ is. absurd (cc)
+
+pub returns-then-is_over-clause-well : goal.returns-then-is_over-clause-well
+returns-then-is_over-clause-well g c = λ is. absurd (cc)
+
+pub returns-then-is_over-clause-cause : goal.returns-then-is_over-clause-cause
+returns-then-is_over-clause-cause g c = record { rose = λ is. absurd (cc) }
+
+pub returns-then-is_over-clause-later : goal.returns-then-is_over-clause-later
+returns-then-is_over-clause-later g c = c.loop.invariant.later
+
+pub returns-then-is_over-clause-rounds : goal.returns-then-is_over-clause-rounds
+returns-then-is_over-clause-rounds g c = c.loop.invariant.rounds
+
+-- ---- a round failed
+
+pub returns-in-Err-clause-rose : goal.returns-in-Err-clause-rose
+returns-in-Err-clause-rose g c = omega (arith, c.loop.invariant.rose, c.in-Err.ensures.rose)
+
+pub returns-in-Err-clause-raised : goal.returns-in-Err-clause-raised
+returns-in-Err-clause-raised g c = λ is. absurd (not_done _ c.end_of_work.ensures.gave_up is)
+
+pub returns-in-Err-clause-well : goal.returns-in-Err-clause-well
+returns-in-Err-clause-well g c = λ is. absurd (not_done _ c.end_of_work.ensures.gave_up is)
+
 pub returns-in-Err-clause-cause : goal.returns-in-Err-clause-cause
 returns-in-Err-clause-cause g c = record {
   rose = λ is.
@@ -41,6 +73,20 @@ returns-in-Err-clause-rounds g c =
     let i = c.loop.invariant in
     let e = c.in-Err.ensures in
     more_rounds d.told d.remembers d.cells d.moment d.left_since g.E.Stops.stops g.S.Service.meaning g.P.Life.opening g.H.Home.restored _ _ _ (lane_heard_put c.loop.worker.lane) _ _ _ _ _ (Err c.in-Err.fault) i.whole i.rounds e.done e.failed e.whole e.fails
+
+-- ---- the last round
+
+pub returns-then-is_last_round-clause-rose : goal.returns-then-is_last_round-clause-rose
+returns-then-is_last_round-clause-rose g c = omega (arith, c.loop.invariant.rose, c.in_default.ensures.rose)
+
+pub returns-then-is_last_round-clause-raised : goal.returns-then-is_last_round-clause-raised
+returns-then-is_last_round-clause-raised g c = λ is. c.in_default.ensures.raised
+
+pub returns-then-is_last_round-clause-well : goal.returns-then-is_last_round-clause-well
+returns-then-is_last_round-clause-well g c = λ is. c.in_default.ensures.whole
+
+pub returns-then-is_last_round-clause-cause : goal.returns-then-is_last_round-clause-cause
+returns-then-is_last_round-clause-cause g c = record { rose = λ is. absurd (cc) }
 
 pub returns-then-is_last_round-clause-later : goal.returns-then-is_last_round-clause-later
 returns-then-is_last_round-clause-later g c = fell_after g.D.Disk.faults _ _ _ c.loop.invariant.later c.in_default.ensures.later

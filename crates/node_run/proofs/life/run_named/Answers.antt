@@ -24,7 +24,7 @@ returns-in-Err-clause-ended g c =
       firm = c.args.store.plan.firm;
     } in
     subst (LifeFrom g.D.Disk.told g.D.Disk.remembers g.D.Disk.cells g.D.Disk.moment g.D.Disk.left_since life c.args.store.plan.restored c.args.store c.args.store) (sym c.trail_status.ensures)
-    (headless g.D.Disk.told g.D.Disk.remembers g.D.Disk.cells g.D.Disk.moment g.D.Disk.left_since life c.args.store.plan.restored c.args.store refl refl (omega (arith, c.requires.core.1.firm, c.requires.opened.firm)) c.in-Err.fault c.in-Err.ensures.err)
+    (headless g.D.Disk.told g.D.Disk.remembers g.D.Disk.cells g.D.Disk.moment g.D.Disk.left_since life c.args.store.plan.restored c.args.store (omega (arith, c.requires.opened.firm)) refl refl (omega (arith, c.requires.core.1.firm, c.requires.opened.firm)) c.in-Err.fault c.in-Err.ensures.err)
 
 pub returns-in-Err-clause-trail : goal.returns-in-Err-clause-trail
 returns-in-Err-clause-trail g c e = trail-failed _ _ c.in-Err.fault c.in-Err.ensures.cause (sym c.trail_status.ensures ∙ e)
@@ -126,7 +126,7 @@ returns-in-Err-seated-clause-ended g c =
       told_after = g.O.Sink.written c.in-Err-seated.sink;
       firm = c.args.store.plan.firm;
     } in
-    seatless g.D.Disk.told g.D.Disk.remembers g.D.Disk.cells g.D.Disk.moment g.D.Disk.left_since life c.args.store.plan.restored c.args.store refl refl (omega (arith, c.requires.core.1.firm, c.requires.opened.firm)) (rw (← c.in-Err-seated.ensures.back) at c.in_default.ensures.ok)
+    seatless g.D.Disk.told g.D.Disk.remembers g.D.Disk.cells g.D.Disk.moment g.D.Disk.left_since life c.args.store.plan.restored c.args.store (omega (arith, c.requires.opened.firm)) refl refl (omega (arith, c.requires.core.1.firm, c.requires.opened.firm)) (rw (← c.in-Err-seated.ensures.back) at c.in_default.ensures.ok)
 
 pub returns-in-Err-seated-clause-later : goal.returns-in-Err-seated-clause-later
 returns-in-Err-seated-clause-later g c = none-fell g.D.Disk.faults c.args.store.disks c.args.store.disks refl

@@ -9,7 +9,7 @@ use Rattle.node_run.specs.Statuses.{all_went, status_of}
 use Rattle.node_run.specs.declared.status.NodeStatus.{NodeStatus}
 use Rattle.node_run.proofs.Causes.{disk-cause, read-cause, trail-cause, write-cause}
 use Rattle.node_run.proofs.Closing.{life-end}
-use Rattle.node_run.proofs.Taking.{whole-rounds}
+use Rattle.node_run.proofs.Taking.{whole-rounds, within-taken}
 use Rattle.node_run.proofs.life.run_seated.Goals as goal
 
 pub returns-clause-ended : goal.returns-clause-ended
@@ -44,6 +44,8 @@ returns-clause-ended g c =
       taken = lane_taken c.run_loops-ends.new.worker.lane;
       faulty = c.run_loops-ends.new.worker.faulty;
       front = end.took;
+      needs = within-taken _ g.P.Home.restored c.finish-end.result.lane (lane_taken c.run_loops-ends.new.worker.lane) end.ends.1 end.lane.1.0 end.counts;
+      told_firm = within-taken _ g.P.Home.restored c.finish-end.result.lane (lane_taken c.run_loops-ends.new.worker.lane) end.ends.0 end.lane.1.0 end.counts;
       whole = whole-rounds g.S.Service.meaning g.P.Life.opening c.finish-end.result.trail.items g.P.Home.restored (lane_taken c.run_loops-ends.new.worker.lane) c.finish-end.result.lane end.ends.0 end.put end.lane.1 end.counts end.took
           c.run_loops-ends.result c.run_loops-ends.new.worker.faulty c.finish-end.result.failed c.settle-settled.result went told.well closed;
       rounds = rw (c.requires.taken, ← end.store, ← c.remains_of.ensures.store) at told.rounds;

@@ -5,6 +5,7 @@ invariant_of-self g c =
     let s = c.args.self in record {
       number = s.number;
       whole = s.whole;
+      head = s.head;
       group = s.group;
       kept = s.kept;
       asks = s.asks;

@@ -18,6 +18,7 @@ invariant_of-result g c =
     let all = subst (λ xs. Each (Carries xs) a.ports.items) (sym none) c.requires.ports.1 in record {
       number = c.requires.journal.0;
       whole = λ _. c.requires.journal.2;
+      head = c.requires.head;
       group = c.requires.group;
       kept = λ _. start ∙ sym (ap (client_of head.secret head.view (fresh 1)) none);
       asks = subst (Asks head.secret head.view (fresh 1)) (sym none) tt;

@@ -1,4 +1,4 @@
-use Rattle.std.proofs.Common.{None, rules, ◌≡◌, ◌∙◌, ℕ, List, [], ◌∷◌, ◌++◌, Option, refl, sym, ap, subst, true≢false}
+use Rattle.std.proofs.Common.{None, rules, inr, ◌≡◌, ◌∙◌, ℕ, List, [], ◌∷◌, ◌++◌, Option, refl, sym, ap, subst, true≢false}
 use Rattle.smart_statements.specs.declared.entry.NodeEvent.TheVariants.{Arrive}
 use Rattle.smart_base.specs.Views.{View}
 use Rattle.client_quorum.specs.Clients.{fresh, after_bytes, heard_bytes}
@@ -8,7 +8,7 @@ use Rattle.group_ends.specs.Ports.{ends}
 use Rattle.group_ends.proofs.Leaving.{on-err}
 use Rattle.group_ends.proofs.Offering.{carries-front, carries-mute}
 use Rattle.group_ends.proofs.Seated.{come-noted, late-mute}
-use Rattle.client_seat.proofs.Grown.{asks-more, client-heard, polled-same, sends-more}
+use Rattle.client_seat.proofs.Grown.{asks-more, client-heard, polled-same}
 use Rattle.client_seat.proofs.seat.ClientSeat.play.Goals as goal
 
 pub invariant_of-self-2 : goal.invariant_of-self-2
@@ -27,6 +27,7 @@ invariant_of-self-2 g c =
     let was = subst (λ (p : Option (List ℕ)). HasCome es p s.inbox.links.items) (sym taken ∙ c.in-Some.is) s.came in record {
       number = c.note.ensures.number ∙ s.number;
       whole = λ _. c.in_ok-note.ensures.whole;
+      head = s.head;
       group = s.group;
       kept = λ _. client-heard head.secret head.view (fresh 1) es new e longer x s.client _ refl (s.kept c.requires.whole) (c.in-Ok.ensures.client ∙ ap (λ (k : List ℕ). after_bytes k s.view s.client b) s.group.0 ∙ ap (λ (v : View). after_bytes head.secret v s.client b) s.group.1 ∙ ap (λ (bytes : List ℕ). after_bytes head.secret head.view s.client bytes) c.as_slice.ensures);
       asks = asks-more head.secret head.view (fresh 1) es new e longer tt s.asks;
@@ -55,6 +56,7 @@ invariant_of-self-in-Break-1 g c =
     let was = subst (λ (p : Option (List ℕ)). HasCome es p s.inbox.links.items) (sym taken ∙ c.in-Some.is) s.came in record {
       number = c.note.ensures.number ∙ s.number;
       whole = λ over. absurd (true≢false over);
+      head = s.head;
       group = s.group;
       kept = λ over. absurd (true≢false over);
       asks = asks-more head.secret head.view (fresh 1) es new e longer tt s.asks;
@@ -80,4 +82,13 @@ returns-clause-ok g c =
     )
 
 pub returns-in_err-note-clause-err : goal.returns-in_err-note-clause-err
-returns-in_err-note-clause-err g c = on-err c.from_residual.result (refl, sends-more c.args.self.now.journal.events.items c.note.new.self.events.items (Happens (Arrive c.in-Some.bytes)) c.note.ensures.events refl)
+returns-in_err-note-clause-err g c =
+    let s = c.args.self.now in
+    let taken : c.take.result ≡ s.pending = search rules in
+    on-err c.from_residual.result (inr (c.in-Some.bytes, sym taken ∙ c.in-Some.is, c.note.ensures.events))
+
+pub returns-clause-going : goal.returns-clause-going
+returns-clause-going g c = c.note.ensures.ended
+
+pub returns-in_err-note-clause-going : goal.returns-in_err-note-clause-going
+returns-in_err-note-clause-going g c = c.note.ensures.ended

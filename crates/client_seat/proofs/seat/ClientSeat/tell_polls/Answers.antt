@@ -15,11 +15,12 @@ invariant_of-self-2 g c =
     let new = c.note.new.self.events.items in
     let longer : new ≡ es ++ (Polls s.idle) ∷ [] = c.note.ensures.events in
     let sum : c.saturating_add-self.result ≡ min (s.told + s.idle) (2 ^ 64 - 1) = search rules in
-    let all = carries-mute es new (Polls s.idle) s.ports.items longer refl (s.all_left c.requires) in record {
+    let all = carries-mute es new (Polls s.idle) s.ports.items longer refl (s.all_left c.requires.whole) in record {
       number = c.note.ensures.number ∙ s.number;
       whole = λ _. c.in_ok-note.ensures.whole;
+      head = s.head;
       group = s.group;
-      kept = λ _. s.kept c.requires ∙ sym (client-more head.secret head.view (fresh 1) es new (Polls s.idle) longer);
+      kept = λ _. s.kept c.requires.whole ∙ sym (client-more head.secret head.view (fresh 1) es new (Polls s.idle) longer);
       asks = asks-more head.secret head.view (fresh 1) es new (Polls s.idle) longer tt s.asks;
       came = come-same es new s.pending s.inbox.links.items (same-mute es new (Polls s.idle) 1 longer refl refl) s.came;
       left = carries-front new s.ports.items all;
@@ -38,9 +39,10 @@ invariant_of-self g c =
     let new = c.note.new.self.events.items in
     let longer : new ≡ es ++ (Polls s.idle) ∷ [] = c.note.ensures.events in
     let sum : c.saturating_add-self.result ≡ min (s.told + s.idle) (2 ^ 64 - 1) = search rules in
-    let all = carries-mute es new (Polls s.idle) s.ports.items longer refl (s.all_left c.requires) in record {
+    let all = carries-mute es new (Polls s.idle) s.ports.items longer refl (s.all_left c.requires.whole) in record {
       number = c.note.ensures.number ∙ s.number;
       whole = λ over. absurd (true≢false over);
+      head = s.head;
       group = s.group;
       kept = λ over. absurd (true≢false over);
       asks = asks-more head.secret head.view (fresh 1) es new (Polls s.idle) longer tt s.asks;
@@ -61,3 +63,9 @@ returns-in_err-note-clause-events g c = told-some c.args.self.now.idle c.args.se
 
 pub returns-then-self-eq0-clause-events : goal.returns-then-self-eq0-clause-events
 returns-then-self-eq0-clause-events g c = told-none c.args.self.now.idle c.args.self.now.journal.events.items c.if-self-eq0.true
+
+pub returns-clause-going : goal.returns-clause-going
+returns-clause-going g c = c.note.ensures.ended
+
+pub returns-in_err-note-clause-going : goal.returns-in_err-note-clause-going
+returns-in_err-note-clause-going g c = c.note.ensures.ended

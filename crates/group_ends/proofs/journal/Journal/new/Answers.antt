@@ -1,6 +1,8 @@
-use Rattle.std.proofs.Common.{◌≡◌, [], sym, subst, true≢false, rules}
+use Rattle.std.proofs.Common.{◌≡◌, [], ap, sym, subst, true≢false, rules}
 use Rattle.std.specs.Io.KnownBytes.{Appends}
 use Rattle.trail.specs.Trails.{trail_text}
+use Rattle.group_ends.specs.Journals.{has_end}
+use Rattle.group_ends.proofs.Ending.{last-none}
 use Rattle.group_ends.proofs.Texts.{has-all}
 use Rattle.group_ends.proofs.journal.Journal.new.Goals as goal
 
@@ -19,4 +21,6 @@ invariant_of-result g c =
       all_text = λ _. text;
       later = c.requires.later;
       cause = λ failed. absurd (true≢false (sym failed));
+      ends = sym (ap has_end none);
+      end_last = last-none events none;
     }

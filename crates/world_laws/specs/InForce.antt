@@ -1,0 +1,13 @@
+-- The views in which members of a group decide.
+use Rattle.std.specs.Prelude.{◌≡◌, ◌≤◌, ◌⊎◌, ◌+◌, ℕ, length, None}
+use Rattle.smart_base.specs.Views.{View}
+use Rattle.replica_rules.specs.Replicas.{view_at}
+use Rattle.world_rules.specs.Worlds.{World}
+
+-- A view in which members decide: the first, that of a place of the list, and, while nothing has ended the play, the one in force behind the
+-- list. A decision that ends the play may stand last in the list, and make a view in which nobody decides.
+pub record IsInForce {S : Type 0} (w : World S) (v : View) : Type 0 where
+  pub place : ℕ
+  pub low : 1 ≤ place
+  pub within : (place ≤ length w.chosen) ⊎ ((v ≡ w.view) ⊎ ((w.ending ≡ None) × (place ≡ length w.chosen + 1)))
+  pub is : view_at w.view w.chosen place ≡ v
