@@ -104,6 +104,11 @@ def mark(who, made=None, digest_there=digest(BATCH)):
     return number(1, 9) + signed_mark(who, digest_there, made)
 
 
+def told_view(who, made=None):
+    """A view of four members, in force from place 2 on."""
+    return number(1, 13) + signed(1, who, number(1, 10) + number(4, 1) + number(8, 2) + FOUR[12:], made)
+
+
 # What changes the regency, from 0 to 1: the leader of regency 1 is member 2.
 
 def stop(who):
@@ -444,6 +449,7 @@ whole("a member that lags is shown a decision", SHOWING + at_four(2) + at_four(3
 whole("another reply was sent", changed(LONE, 13, to_client(reply(b"6"))), differs(1, 1, 13))
 whole("a reply with another tag was sent", changed(LONE, 13, to_client(number(1, 8) + signed(1, 1, reply_statement(b"5"), bytes(32)))), differs(1, 1, 13))
 whole("the reply was sent to another client", changed(LONE, 13, send(2, 2, reply(b"5"))), differs(1, 1, 13))
+whole("the reply was sent to all clients", changed(LONE, 13, send(4, 0, reply(b"5"))), differs(1, 1, 13))
 whole("the proposal was sent to one member", changed(LONE, 3, send(1, 1, PROPOSE)), differs(1, 1, 3))
 whole("a vote was sent before its entry was firm", changed(changed(LONE, 5, to_all(WRITE)), 6, firm(2)), differs(1, 1, 5))
 whole("a proposal was sent twice", changed(LONE, 3, to_all(PROPOSE), to_all(PROPOSE)), differs(1, 1, 4))
@@ -471,6 +477,8 @@ whole("a report with votes of other tags came", came_to_four(number(1, 5) + sign
 whole("a vote in a report in a SYNC of other tags came", came_to_four(sync([signed_report(3, lock([vote(2, 4, BATCH)]), UNSIGNED)], UNSIGNED)), differs(2, 1, 1))
 whole("a mark in an offer came", came_to_four(state_offer(2, 1, 0, [signed_mark(3, DIGEST_AT_ONE)])), differs(2, 1, 1))
 whole("a mark of another tag in an offer came", came_to_four(state_offer(2, 1, 0, [signed_mark(3, DIGEST_AT_ONE, UNSIGNED)])), COHERENT)
+whole("a view of a member without a trail came", came_to_four(told_view(2)), differs(2, 1, 1))
+whole("a view of another tag came", came_to_four(told_view(2, UNSIGNED)), COHERENT)
 whole("of two differences the first trail's", changed(ASKED, 3, arrive(reply(b"6"))) + changed(LONE, 3, to_all(WRITE)), differs(2, 0, 3))
 whole("of two differences the first event's", changed(changed(LONE, 13, to_client(reply(b"6"))), 3, to_all(WRITE)), differs(1, 1, 3))
 
@@ -488,9 +496,11 @@ whole("a batch is to be delivered at a client", [opening(0), DELIVER, END], scri
 whole("entries are firm at a client", [opening(0), firm(1), END], script(2))
 whole("a client has an entry", [opening(0, 1), OPENED, END], script(2))
 whole("a message for no kind of receiver", [opening(1), send(0, 0, ASK), END], script(2))
-whole("a message for a kind of receiver that is none yet", [opening(1), send(4, 0, ASK), END], script(2))
+whole("a message for another kind of receiver that there is not", [opening(1), send(5, 0, ASK), END], script(2))
 whole("a message for the view and a number", [opening(1), send(3, 1, ASK), END], script(2))
+whole("a message for all clients and a number", [opening(1), send(4, 1, ASK), END], script(2))
 whole("a full link to the view", [opening(1), lost(3, 0, ASK), END], script(2))
+whole("a full link to all clients", [opening(1), lost(4, 0, ASK), END], script(2))
 whole("a number of firm entries of seven bytes", [opening(1), firm(1)[:-1], END], script(2))
 whole("one of nine bytes", [opening(1), firm(1) + b"\0", END], script(2))
 whole("a view that is not the first", [opening(1, view=number(4, 1) + VIEW[4:]), END], script(1))

@@ -197,6 +197,8 @@ class Reader:
             self.number(4)
             self.number(4)
             self.text(4, 0, 65536)
+        elif kind == 13 and any_kind:
+            self.signed(False, self.told_view)
         else:
             raise Fault(at)
 
@@ -439,8 +441,10 @@ def messages():
     table.give("stateask", "0a 0004 0000000000000000 0000000000000000")
     table.give("offer", "0b 0002 place 00000002 0001 mark")
     table.give("part", "0c place 00000000 00000001 00000002 6869")
+    table.part("Member 3 tells view 1, of members 1 to 4 from place 2 on.")
+    table.give("view-told", "0d " + stated(table, 3, "0a 00000001 0000000000000002 01 0004 0001 0002 0003 0004", "0002 0708"))
     table.part("Each message is fine, whatever is in its report.")
-    for name in ("ask", "propose", "vote", "reply", "stop", "marking", "decision", "stateask", "offer", "part"):
+    for name in ("ask", "propose", "vote", "reply", "stop", "marking", "decision", "stateask", "offer", "part", "view-told"):
         table.spelled(name, FINE)
     table.spelled("03 write", FINE)
     for name in shapes:
@@ -502,10 +506,10 @@ def messages():
     table.spelled("07 place batch 0001 write", str(1 + 8 + 2 + 36 + 2 + 7))
     table.spelled("07 place 0000 0001 accept", "9")
     table.part("Each front of a message.")
-    for name in ("ask", "propose", "vote", "reply", "stop", "full", "little", "sync", "marking", "decision", "stateask", "offer", "part"):
+    for name in ("ask", "propose", "vote", "reply", "stop", "full", "little", "sync", "marking", "decision", "stateask", "offer", "part", "view-told"):
         table.fronts(name)
     table.part("Each value of each byte of a message. Of a byte that may have any value, the least and the greatest.")
-    for name in ("ask", "propose", "vote", "reply", "stop", "full", "little", "sync", "marking", "decision", "stateask", "offer", "part"):
+    for name in ("ask", "propose", "vote", "reply", "stop", "full", "little", "sync", "marking", "decision", "stateask", "offer", "part", "view-told"):
         table.changes(name)
     return table
 

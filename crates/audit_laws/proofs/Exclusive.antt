@@ -5,7 +5,7 @@ use Rattle.std.specs.Prelude.{Result, Ok, Err, nat_lt, not, ◌||◌, is_some, o
 use Rattle.std.specs.Option.{option_and_then}
 use Rattle.smart_base.specs.Cuts.{Cut, Read, contents, text_at, ranged, number_at}
 use Rattle.smart_base.specs.Lists.{or_else, Each}
-use Rattle.smart_base.specs.Views.{View}
+use Rattle.replica_rules.specs.Replicas.{Managed}
 use Rattle.smart_service.specs.Services.{Meaning}
 use Rattle.smart_service.specs.declared.replica.Replica.{Replica}
 use Rattle.app_count.specs.Counts.{counting}
@@ -44,16 +44,16 @@ some-one x y is = cc
 
 -- ---- a damaged entry stays the first one, also before more entries
 
-module _ (secret : List ℕ) (opening : ℕ) (view : View) where
+module _ (secret : List ℕ) (opening : ℕ) (made : Managed) where
   at-step : (before : List LogEntry) (f g : LogEntry → Option ℕ) (read : Result LogEntry ℕ) (k : ℕ) → ((e : LogEntry) → f e ≡ Some k → g e ≡ Some k)
-      → damage_at secret opening view before f read ≡ Some k → damage_at secret opening view before g read ≡ Some k
+      → damage_at secret opening made before f read ≡ Some k → damage_at secret opening made before g read ≡ Some k
   at-step before f g (Err at) k keeps is = is
-  at-step before f g (Ok e) k keeps is = if-step (may_restore secret opening view before e) (f e) (g e) (Some (length before + 1)) k (keeps e) is
+  at-step before f g (Ok e) k keeps is = if-step (may_restore secret opening made before e) (f e) (g e) (Some (length before + 1)) k (keeps e) is
 
-  from-more : (before : List LogEntry) (xs ys : List (List ℕ)) (k : ℕ) → damaged_from secret opening view before xs ≡ Some k → damaged_from secret opening view before (xs ++ ys) ≡ Some k
+  from-more : (before : List LogEntry) (xs ys : List (List ℕ)) (k : ℕ) → damaged_from secret opening made before xs ≡ Some k → damaged_from secret opening made before (xs ++ ys) ≡ Some k
   from-more before [] ys k is = absurd (cc)
   from-more before (x ∷ xs) ys k is =
-      at-step before (λ e. damaged_from secret opening view (before ++ e ∷ []) xs) (λ e. damaged_from secret opening view (before ++ e ∷ []) (xs ++ ys)) (entry_decoded x) k
+      at-step before (λ e. damaged_from secret opening made (before ++ e ∷ []) xs) (λ e. damaged_from secret opening made (before ++ e ∷ []) (xs ++ ys)) (entry_decoded x) k
       (λ e. from-more (before ++ e ∷ []) xs ys k) is
 
 behind-more : {S : Type 0} (secret : List ℕ) (xs ys : List (List ℕ)) (r : Option (Replica S)) (k : ℕ) → damaged_behind secret xs r ≡ Some k → damaged_behind secret (xs ++ ys) r ≡ Some k

@@ -30,7 +30,7 @@ use Rattle.node_rules.specs.Arrivals.{kept, noted}
 use Rattle.node_rules.specs.Changes.{promised_for, adopts_by, adoption, adopts, asks_next, joining, joins, promising, promise_next, promises, leading, lead_with, leads, lags, asks_state, timing, passes_on, presses, times}
 use Rattle.node_rules.specs.Kept.{trimmed}
 use Rattle.node_rules.specs.Marks.{firm_at, mark_place}
-use Rattle.node_rules.specs.Nodes.{Node, holding, holding_all}
+use Rattle.node_rules.specs.Nodes.{Node, holding, holding_all, enters, stays_in_view, telling}
 use Rattle.node_rules.specs.Reopening.{reopened, reopened_from, outset_from, entries_in}
 use Rattle.node_rules.specs.Rules.{replies_with, replying, lines_to_answer, deliver_batch, delivers, proposing, propose_batch, proposes, writing, write_batch, writes, accepting, accept_batch, accepts, deciding, decide_batch, decides, answering, answer_line, answers_again}
 use Rattle.node_rules.specs.Steps.{Outset, step_of, first_leaving, after_first}
@@ -177,10 +177,17 @@ within-times : {S : Type 0} (n : Node S) → WaitsWithin n → WaitsWithin (time
 unfolding times
 within-times n within = one-of (lags n) (asks_state n) _ (within-asks_state n within) (one-of (timing n) (presses n) n (within-presses n within) within)
 
+-- the view in force is told, unless it is known
+within-telling : {S : Type 0} (known : Bool) (to : Target) (n : Node S) → WaitsWithin n → WaitsWithin (telling known to n)
+within-telling true to n within = within
+within-telling false to n within = within-end (length n.entries) n.held _ _ within
+
 within-answer_line : {S : Type 0} (n : Node S) (line : Option Execution) → WaitsWithin n → WaitsWithin (answer_line n line)
 unfolding answer_line
 within-answer_line n None within = within
-within-answer_line n (Some line) within = within-end (length n.entries) n.held _ _ within
+within-answer_line {S = S} n (Some line) within =
+    let answered : Node S = replies_with n line in
+    within-telling (nat_le (length answered.replica.views) 1) (targets.Client line.client) answered (within-end (length n.entries) n.held _ _ within)
 
 within-answers_again : {S : Type 0} (n : Node S) (asked : Asked) → WaitsWithin n → WaitsWithin (answers_again n asked)
 unfolding answers_again
@@ -193,8 +200,10 @@ within-replying n (l ∷ ls) within = within-replying (replies_with n l) ls (wit
 within-deliver_batch : {S : Type 0} (m : Meaning S) (n : Node S) (batch : Option Batch) → WaitsWithin n → WaitsWithin (deliver_batch m n batch)
 unfolding deliver_batch
 within-deliver_batch m n None within = within
-within-deliver_batch m n (Some batch) within =
-    within-replying (record n { replica = delivered m n.replica batch; waiting = None; pool = settled (delivered m n.replica batch).table n.pool; impatient = false }) (lines_to_answer m n batch) within
+within-deliver_batch {S = S} m n (Some batch) within =
+    let n' : Node S = enters n (record n { replica = delivered m n.replica batch; waiting = None; pool = settled (delivered m n.replica batch).table n.pool; impatient = false }) in
+    let answered : Node S = replying n' (lines_to_answer m n batch) in
+    within-telling (stays_in_view n answered) targets.Clients answered (within-replying n' (lines_to_answer m n batch) within)
 
 within-delivers : {S : Type 0} (m : Meaning S) (n : Node S) → WaitsWithin n → WaitsWithin (delivers m n)
 unfolding delivers

@@ -48,11 +48,13 @@ pub record Post : Type 0 where
   pub to : ℕ
   pub text : List ℕ
 
--- the receivers of a message, with the members of the sender's view: the numbers of their trails. A client's trail has the number 0.
+-- The receivers of a message, with the members of the sender's view: the numbers of their trails. A client's trail has the number 0, and a run
+-- has one client.
 abbrev pub receivers : List ℕ → Target → List ℕ
 receivers members (targets.Node member) = member ∷ []
 receivers members (targets.Client client) = 0 ∷ []
 receivers members targets.View = members
+receivers members targets.Clients = 0 ∷ []
 
 -- a message for each of its receivers
 abbrev pub posts : List ℕ → Addressed → List Post

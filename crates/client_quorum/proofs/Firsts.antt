@@ -2,11 +2,12 @@
 use Rattle.std.proofs.Common.{◌≡◌, ℕ, ◌++◌, ◌==◌, Bool, true, false, not, ◌&&◌, ◌||◌, List, [], ◌∷◌, filter, refl, cond, Option, Some, None, eqb-true, inl, inr, ◌⊎◌}
 use Rattle.std.specs.List.{list_any}
 use Rattle.smart_base.specs.Lists.{or_else, same_bytes}
+use Rattle.smart_base.specs.Views.{View}
 use Rattle.smart_base.proofs.SameLists.{same_list-equal}
-use Rattle.smart_statements.specs.Forms.{SignedBy}
 use Rattle.smart_statements.specs.declared.statement.Answer.{Answer}
 use Rattle.client_quorum.specs.Clients.{same_answer}
-use Rattle.client_quorum.specs.Quorums.{first_of}
+use Rattle.certificates.specs.Collects.{of_view}
+use Rattle.client_quorum.specs.Quorums.{Came, first_of}
 use Rattle.client_quorum.specs.declared.client.Ignored.{Ignored}
 use Rattle.client_quorum.specs.declared.client.Ignored.TheVariants as reasons
 
@@ -54,11 +55,19 @@ same_answer-alike a b same x =
     let reply = same_list-equal (λ x y. x == y) (λ x y is. eqb-true x y is) a.reply b.reply three.1 in
     cc
 
+-- replies that are the same state one view
+pub same_answer-view : (a b : Answer) → same_answer a b ≡ true → a.view ≡ b.view
+same_answer-view a b same =
+    let three = and_true ((a.view == b.view) && (a.place == b.place) && (a.index == b.index)) (same_bytes a.reply b.reply) same in
+    let two = and_true ((a.view == b.view) && (a.place == b.place)) (a.index == b.index) three.0 in
+    let one = and_true (a.view == b.view) (a.place == b.place) two.0 in
+    eqb-true a.view b.view one.0
+
 -- the first of a list with one more at its end
-pub first_end : (test : SignedBy Answer → Bool) (replies : List (SignedBy Answer)) (a : SignedBy Answer) (member : ℕ)
-    → first_of test (replies ++ a ∷ []) member ≡ or_else (first_of test replies member) (cond ((a.signer == member) && test a) (Some a.statement) None)
-first_end test [] a member = refl
-first_end test (r ∷ replies) a member = taken ((r.signer == member) && test r) r.statement _ _ _ (first_end test replies a member)
+pub first_end : (test : Came → Bool) (came : List Came) (k : Came) (member : ℕ)
+    → first_of test (came ++ k ∷ []) member ≡ or_else (first_of test came member) (cond ((k.reply.signer == member) && test k) (Some k.reply.statement) None)
+first_end test [] k member = refl
+first_end test (r ∷ came) k member = taken ((r.reply.signer == member) && test r) r.reply.statement _ _ _ (first_end test came k member)
   where
     taken : (b : Bool) (x : Answer) (long short last : Option Answer) → long ≡ or_else short last → cond b (Some x) long ≡ or_else (cond b (Some x) short) last
     taken true x long short last same = refl
@@ -66,16 +75,25 @@ first_end test (r ∷ replies) a member = taken ((r.signer == member) && test r)
 
 -- the first reason that applies
 
--- no reason applies, or one does
-abbrev pub Reasons : Bool → Bool → Option Ignored → Type 0
-Reasons counts repeats why = ((why ≡ None) × (counts ≡ true) × (repeats ≡ false)) ⊎ ((w : Ignored) × (why ≡ Some w) × ((counts ≡ false) ⊎ (repeats ≡ true)))
+-- by the view that a reply states: whether its signer is a member there, and whether it repeats
+abbrev pub uncounted_by : Option View → (View → Bool) → Bool → Option Ignored
+uncounted_by None member repeats = Some reasons.UnknownView
+uncounted_by (Some v) member repeats = cond (not (member v)) (Some reasons.Stranger) (cond repeats (Some reasons.Repeated) None)
 
-pub reasons_of : (tagged waits view member repeats : Bool)
-    → Reasons (tagged && waits && view && member) repeats
-    (cond (not tagged) (Some reasons.BadTag) (cond (not waits) (Some reasons.Settled) (cond (not view) (Some reasons.UnknownView) (cond (not member) (Some reasons.Stranger) (cond repeats (Some reasons.Repeated) None)))))
-reasons_of false waits view member repeats = inr (reasons.BadTag, refl, inl refl)
-reasons_of true false view member repeats = inr (reasons.Settled, refl, inl refl)
-reasons_of true true false member repeats = inr (reasons.UnknownView, refl, inl refl)
-reasons_of true true true false repeats = inr (reasons.Stranger, refl, inl refl)
-reasons_of true true true true true = inr (reasons.Repeated, refl, inr refl)
-reasons_of true true true true false = inl (refl, refl, refl)
+-- no reason applies, or one does; the view that is stated is known in the first case
+abbrev pub Reasons : Bool → Option View → Bool → Option Ignored → Type 0
+Reasons counts found repeats why =
+    ((why ≡ None) × (counts ≡ true) × (repeats ≡ false) × ((v : View) × (found ≡ Some v))) ⊎ ((w : Ignored) × (why ≡ Some w) × ((counts ≡ false) ⊎ (repeats ≡ true)))
+
+pub reasons_of : (tagged waits : Bool) (found : Option View) (member : View → Bool) (repeats : Bool) (uncounted : Option Ignored)
+    → uncounted ≡ uncounted_by found member repeats
+    → Reasons (tagged && waits && of_view found member) found repeats (cond (not tagged) (Some reasons.BadTag) (cond (not waits) (Some reasons.Settled) uncounted))
+reasons_of false waits found member repeats uncounted is = inr (reasons.BadTag, refl, inl refl)
+reasons_of true false found member repeats uncounted is = inr (reasons.Settled, refl, inl refl)
+reasons_of true true None member repeats uncounted is = inr (reasons.UnknownView, is, inl refl)
+reasons_of true true (Some v) member repeats uncounted is = by (member v) repeats is
+  where
+    by : (m r : Bool) → uncounted ≡ cond (not m) (Some reasons.Stranger) (cond r (Some reasons.Repeated) None) → Reasons m (Some v) r uncounted
+    by false r is = inr (reasons.Stranger, is, inl refl)
+    by true true is = inr (reasons.Repeated, is, inr refl)
+    by true false is = inl (is, refl, refl, (v, refl))

@@ -1,2 +1,4 @@
 pub mod Clients
 pub mod Quorums
+pub mod Readings
+pub mod ViewWords

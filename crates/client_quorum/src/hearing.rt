@@ -1,16 +1,20 @@
-//! What a client makes of a reply.
-ghost use Rattle.std.specs.Prelude.{◌≡◌, ◌++◌, ◌∷◌, [], List, IfOk, OnOk, OnErr};
+//! What a client makes of a reply, and of bytes.
+ghost use Rattle.std.specs.Prelude.{◌≡◌, ◌++◌, ◌∷◌, [], List, Some, IfOk, OnOk, OnErr, option_copied, option_map};
+ghost use Rattle.smart_base.specs.Views.{View, quorum};
 ghost use Rattle.smart_statements.specs.Forms.{SignedBy};
 ghost use Rattle.smart_messages.specs.Messages.{decoded};
 ghost use Rattle.smart_statements.specs.declared.statement.Answer.{Answer};
-ghost use Rattle.client_quorum.specs.Clients.{is_waited_for, why_ignored, count_heard, heard, after_heard, reply_read, heard_bytes, after_bytes};
+ghost use Rattle.certificates.specs.Collects.{view_numbered};
+ghost use Rattle.client_quorum.specs.Clients.{have, is_waited_for, known, why_uncounted, why_ignored, count_heard, heard, after_heard};
+ghost use Rattle.client_quorum.specs.Readings.{word_read, heard_word, after_word, heard_bytes, after_bytes};
 
-use crate::client::{Acceptance, Client, Heard, Ignored};
+use crate::client::{Acceptance, Client, Heard, Ignored, Word};
 use crate::counting::{has_signer, have};
 use smart_base::bytes::Payload;
 use smart_base::duplicate::Duplicate;
 use smart_base::fault::ReadError;
 use smart_base::name::MemberId;
+use smart_base::number::ViewNo;
 use smart_base::sequence::Sequence;
 use smart_base::view::View;
 use smart_keys::ring::Ring;
@@ -29,19 +33,24 @@ fn is_waited_for(waiting: &Option<Request>, answer: &Answer) -> bool
     }
 }
 
-/// The first reason for which a client ignores a reply.
-#[tactic(auto, unfolding(crate::specs::Clients::why_ignored))]
-fn why_ignored(view: &View, ring: &Ring, client: &Client, reply: &Signed<Answer>) -> Option<Ignored>
-    ensures { result ≡ why_ignored ring.now view.now client.now reply.now }
+/// The view of a number, if it is among these.
+fn view_numbered(views: &[View], number: ViewNo) -> Option<&View>
+    ensures { option_copied result ≡ view_numbered views.now number }
 {
-    let answer = reply.statement();
-    if !reply.verifies(ring) {
-        Some(Ignored::BadTag)
-    } else if !is_waited_for(&client.waiting, answer) {
-        Some(Ignored::Settled)
-    } else if answer.view != view.number() {
-        Some(Ignored::UnknownView)
-    } else if !view.is_member(MemberId::new(reply.signer())) {
+    for view in views {
+        if view.number() == number {
+            return Some(view);
+        }
+    }
+    None
+}
+
+/// The first reason for which a client does not count a reply to its waiting request, in the view that
+/// the reply states.
+fn why_repeated(view: &View, client: &Client, reply: &Signed<Answer>) -> Option<Ignored>
+    ensures { result ≡ why_uncounted (Some view.now) client.now reply.now }
+{
+    if !view.is_member(MemberId::new(reply.signer())) {
         Some(Ignored::Stranger)
     } else if has_signer(client.replies.as_slice(), reply.signer()) {
         Some(Ignored::Repeated)
@@ -50,34 +59,76 @@ fn why_ignored(view: &View, ring: &Ring, client: &Client, reply: &Signed<Answer>
     }
 }
 
-/// The reply that bytes are, if they are one. Error: want of memory.
-pub fn read_reply(alloc: Global, bytes: &[u8]) -> Result<Option<Signed<Answer>>, AllocError>
-    ensures { IfOk result (λ reply. reply ≡ reply_read (decoded bytes.now)) }
+/// The same, by that view, if the client knows it.
+fn why_uncounted(view: Option<&View>, client: &Client, reply: &Signed<Answer>) -> Option<Ignored>
+    ensures { result ≡ why_uncounted (option_copied view.entry) client.now reply.now }
+{
+    match view {
+        None => Some(Ignored::UnknownView),
+        Some(view) => why_repeated(view, client, reply),
+    }
+}
+
+/// The first reason for which a client ignores a reply.
+#[tactic(auto, unfolding(crate::specs::Clients::why_ignored))]
+fn why_ignored(ring: &Ring, client: &Client, reply: &Signed<Answer>) -> Option<Ignored>
+    ensures { result ≡ why_ignored ring.now client.now reply.now }
+{
+    let answer = reply.statement();
+    if !reply.verifies(ring) {
+        Some(Ignored::BadTag)
+    } else if !is_waited_for(&client.waiting, answer) {
+        Some(Ignored::Settled)
+    } else {
+        let view = view_numbered(client.views.as_slice(), answer.view);
+        why_uncounted(view, client, reply)
+    }
+}
+
+/// The member's word that bytes are, if they are one. Error: want of memory.
+pub fn read_word(alloc: Global, bytes: &[u8]) -> Result<Option<Word>, AllocError>
+    ensures { IfOk result (λ word. word ≡ word_read (decoded bytes.now)) }
 {
     match decode(alloc, bytes) {
-        Ok(Message::Reply(reply)) => Ok(Some(reply)),
+        Ok(Message::Reply(reply)) => Ok(Some(Word::Reply(reply))),
+        Ok(Message::ViewTold(info)) => Ok(Some(Word::View(info))),
         Ok(_) | Err(ReadError::Unread { .. }) => Ok(None),
         Err(ReadError::NoMemory) => Err(AllocError),
     }
 }
 
+/// How many members gave a reply, and how many are needed, in the view that it states; `None` if that is
+/// none of these views.
+fn votes(views: &[View], replies: &[Signed<Answer>], answer: &Answer) -> Option<(usize, usize)>
+    ensures { result ≡ option_map (λ v. (have v replies.now answer.now, quorum v)) (view_numbered views.now answer.now.view) }
+{
+    match view_numbered(views, answer.view) {
+        None => None,
+        Some(view) => Some((have(view, replies, answer), view.quorum())),
+    }
+}
+
 impl Client {
-    /// Counts the last reply to the waiting request, and accepts it if a quorum has given it.
+    /// Counts the last reply to the waiting request, and accepts it if a quorum has given it. The client
+    /// knows the view that the reply states.
     fn count(
         &mut self,
         alloc: Global,
-        view: &View,
         reply: &Signed<Answer>,
         request: Request,
         payload: Payload,
     ) -> Heard
         requires { payload ≡ reply.now.statement.reply }
-        ensures heard { (replies : List (SignedBy Answer)) → self.old.replies ≡ replies ++ reply.now ∷ [] → result ≡ count_heard view.now (record self.old { replies = replies }) reply.now request }
-        ensures client { (replies : List (SignedBy Answer)) → self.old.replies ≡ replies ++ reply.now ∷ [] → self.new ≡ after_heard (record self.old { waiting = Some request; replies = replies }) reply.now result }
+        ensures heard { (replies : List (SignedBy Answer)) → self.old.replies ≡ replies ++ reply.now ∷ [] → (v : View) → known self.old reply.now.statement.view ≡ Some v →
+            result ≡ count_heard v (record self.old { replies = replies }) reply.now request }
+        ensures client { (replies : List (SignedBy Answer)) → self.old.replies ≡ replies ++ reply.now ∷ [] → (v : View) → known self.old reply.now.statement.view ≡ Some v →
+            self.new ≡ after_heard (record self.old { waiting = Some request; replies = replies }) reply.now result }
     {
         let answer = reply.statement();
-        let count = have(view, self.replies.as_slice(), answer);
-        let need = view.quorum();
+        let Some((count, need)) = votes(self.views.as_slice(), self.replies.as_slice(), answer)
+        else {
+            return Heard::Ignored(Ignored::UnknownView);
+        };
         if need <= count {
             self.told(answer.place);
             self.replies = Sequence::new(alloc);
@@ -103,15 +154,14 @@ impl Client {
     pub fn hear_reply(
         &mut self,
         alloc: Global,
-        view: &View,
         ring: &Ring,
         reply: &Signed<Answer>,
     ) -> Result<Heard, AllocError>
-        ensures heard { IfOk result (λ h. h ≡ heard ring.now view.now self.old reply.now) }
-        ensures client { OnOk result (self.new ≡ after_heard self.old reply.now (heard ring.now view.now self.old reply.now)) }
+        ensures heard { IfOk result (λ h. h ≡ heard ring.now self.old reply.now) }
+        ensures client { OnOk result (self.new ≡ after_heard self.old reply.now (heard ring.now self.old reply.now)) }
         ensures unheard { OnErr result (self.new ≡ self.old) }
     {
-        if let Some(why) = why_ignored(view, ring, self, reply) {
+        if let Some(why) = why_ignored(ring, self, reply) {
             return Ok(Heard::Ignored(why));
         }
         let kept = reply.duplicate(alloc)?;
@@ -123,27 +173,38 @@ impl Client {
                     self.waiting = Some(request);
                     Err(error)
                 }
-                Ok(()) => Ok(self.count(alloc, view, reply, request, payload)),
+                Ok(()) => Ok(self.count(alloc, reply, request, payload)),
             },
         }
     }
 
-    /// Hears the bytes of a message; it ignores bytes that are no reply. Error: want of memory; the
-    /// client has not heard them then.
-    pub fn hear(
+    /// Hears a member's word. Error: want of memory; the client has not heard it then.
+    pub fn hear_word(
         &mut self,
         alloc: Global,
-        view: &View,
         ring: &Ring,
-        bytes: &[u8],
+        word: &Word,
     ) -> Result<Heard, AllocError>
-        ensures heard { IfOk result (λ h. h ≡ heard_bytes ring.now view.now self.old bytes.now) }
-        ensures client { OnOk result (self.new ≡ after_bytes ring.now view.now self.old bytes.now) }
+        ensures heard { IfOk result (λ h. h ≡ heard_word ring.now self.old word.now) }
+        ensures client { OnOk result (self.new ≡ after_word self.old word.now (heard_word ring.now self.old word.now)) }
         ensures unheard { OnErr result (self.new ≡ self.old) }
     {
-        match read_reply(alloc, bytes)? {
+        match word {
+            Word::Reply(reply) => self.hear_reply(alloc, ring, reply),
+            Word::View(info) => self.hear_view(alloc, ring, info),
+        }
+    }
+
+    /// Hears the bytes of a message; it ignores bytes that are no member's word. Error: want of memory;
+    /// the client has not heard them then.
+    pub fn hear(&mut self, alloc: Global, ring: &Ring, bytes: &[u8]) -> Result<Heard, AllocError>
+        ensures heard { IfOk result (λ h. h ≡ heard_bytes ring.now self.old bytes.now) }
+        ensures client { OnOk result (self.new ≡ after_bytes ring.now self.old bytes.now) }
+        ensures unheard { OnErr result (self.new ≡ self.old) }
+    {
+        match read_word(alloc, bytes)? {
             None => Ok(Heard::Ignored(Ignored::Unread)),
-            Some(reply) => self.hear_reply(alloc, view, ring, &reply),
+            Some(word) => self.hear_word(alloc, ring, &word),
         }
     }
 }

@@ -2,9 +2,9 @@
 use Rattle.std.proofs.Common.{◌≡◌, ◌≢◌, ℕ, ◌+◌, ◌==◌, true, false, cond, min, ◌-◌, ◌^◌, Bool, List, [], ◌∷◌, ◌++◌, None, refl, sym, ap, subst, ◌∙◌, arith, append_assoc, append-nil}
 use Rattle.std.proofs.lemmas.Bool.{eqb-true}
 use Rattle.smart_base.specs.Lists.{Each}
-use Rattle.smart_base.specs.Views.{View}
 use Rattle.smart_statements.specs.declared.entry.NodeEvent.TheVariants.{Arrive}
-use Rattle.client_quorum.specs.Clients.{request_of, asking, after_bytes}
+use Rattle.client_quorum.specs.Clients.{request_of, asking}
+use Rattle.client_quorum.specs.Readings.{after_bytes}
 use Rattle.client_quorum.specs.declared.client.Client.{Client}
 use Rattle.node_rules.specs.declared.node.Target.{Target}
 use Rattle.trail.specs.declared.event.Addressed.{Addressed}
@@ -15,13 +15,13 @@ use Rattle.group_ends.specs.Ports.{losts, IsPosted}
 use Rattle.group_ends.proofs.Carrying.{IsLostOf, losts-only}
 use Rattle.client_seat.specs.Asks.{client_after, client_of, ask_by, MayCome, Asks, polls_since, told_polls}
 
-pub client-join : (secret : List ℕ) (view : View) (c : Client) (xs ys : List TrailEvent) → client_of secret view c (xs ++ ys) ≡ client_of secret view (client_of secret view c xs) ys
-client-join secret view c [] ys = refl
-client-join secret view c (x ∷ xs) ys = client-join secret view (client_after secret view c x) xs ys
+pub client-join : (secret : List ℕ) (c : Client) (xs ys : List TrailEvent) → client_of secret c (xs ++ ys) ≡ client_of secret (client_of secret c xs) ys
+client-join secret c [] ys = refl
+client-join secret c (x ∷ xs) ys = client-join secret (client_after secret c x) xs ys
 
-pub asks-join : (secret : List ℕ) (view : View) (c : Client) (xs ys : List TrailEvent) → Asks secret view c xs → Asks secret view (client_of secret view c xs) ys → Asks secret view c (xs ++ ys)
-asks-join secret view c [] ys first rest = rest
-asks-join secret view c (x ∷ xs) ys first rest = (first.0, asks-join secret view (client_after secret view c x) xs ys first.1 rest)
+pub asks-join : (secret : List ℕ) (c : Client) (xs ys : List TrailEvent) → Asks secret c xs → Asks secret (client_of secret c xs) ys → Asks secret c (xs ++ ys)
+asks-join secret c [] ys first rest = rest
+asks-join secret c (x ∷ xs) ys first rest = (first.0, asks-join secret (client_after secret c x) xs ys first.1 rest)
 
 pub polls-join : (before : ℕ) (xs ys : List TrailEvent) → polls_since before (xs ++ ys) ≡ polls_since (polls_since before xs) ys
 polls-join before [] ys = refl
@@ -36,21 +36,21 @@ sends-join [] ys = refl
 sends-join (x ∷ xs) ys = ap (λ (l : List Addressed). sent_by x ++ l) (sends-join xs ys) ∙ sym (append_assoc (sent_by x) (sends xs) (sends ys))
 
 -- Losts change nothing
-client-lost : (secret : List ℕ) (view : View) (c : Client) (a : Addressed) (lost : List TrailEvent) → Each (IsLostOf a) lost → client_of secret view c lost ≡ c
-client-lost secret view c a [] only = refl
-client-lost secret view c a (Happens event ∷ lost) only = absurd only.0
-client-lost secret view c a (Send b ∷ lost) only = absurd only.0
-client-lost secret view c a (Lost b ∷ lost) only = client-lost secret view c a lost only.1
-client-lost secret view c a (Polls count ∷ lost) only = absurd only.0
-client-lost secret view c a (End ∷ lost) only = absurd only.0
+client-lost : (secret : List ℕ) (c : Client) (a : Addressed) (lost : List TrailEvent) → Each (IsLostOf a) lost → client_of secret c lost ≡ c
+client-lost secret c a [] only = refl
+client-lost secret c a (Happens event ∷ lost) only = absurd only.0
+client-lost secret c a (Send b ∷ lost) only = absurd only.0
+client-lost secret c a (Lost b ∷ lost) only = client-lost secret c a lost only.1
+client-lost secret c a (Polls count ∷ lost) only = absurd only.0
+client-lost secret c a (End ∷ lost) only = absurd only.0
 
-asks-lost : (secret : List ℕ) (view : View) (c : Client) (a : Addressed) (lost : List TrailEvent) → Each (IsLostOf a) lost → Asks secret view c lost
-asks-lost secret view c a [] only = tt
-asks-lost secret view c a (Happens event ∷ lost) only = absurd only.0
-asks-lost secret view c a (Send b ∷ lost) only = absurd only.0
-asks-lost secret view c a (Lost b ∷ lost) only = (tt, asks-lost secret view c a lost only.1)
-asks-lost secret view c a (Polls count ∷ lost) only = absurd only.0
-asks-lost secret view c a (End ∷ lost) only = absurd only.0
+asks-lost : (secret : List ℕ) (c : Client) (a : Addressed) (lost : List TrailEvent) → Each (IsLostOf a) lost → Asks secret c lost
+asks-lost secret c a [] only = tt
+asks-lost secret c a (Happens event ∷ lost) only = absurd only.0
+asks-lost secret c a (Send b ∷ lost) only = absurd only.0
+asks-lost secret c a (Lost b ∷ lost) only = (tt, asks-lost secret c a lost only.1)
+asks-lost secret c a (Polls count ∷ lost) only = absurd only.0
+asks-lost secret c a (End ∷ lost) only = absurd only.0
 
 polls-lost : (before : ℕ) (a : Addressed) (lost : List TrailEvent) → Each (IsLostOf a) lost → polls_since before lost ≡ before
 polls-lost before a [] only = refl
@@ -62,17 +62,17 @@ polls-lost before a (End ∷ lost) only = absurd only.0
 
 -- ---- one event more
 
-module _ (secret : List ℕ) (view : View) (c : Client) (es new : List TrailEvent) (e : TrailEvent) (longer : new ≡ es ++ e ∷ []) where
-  pub client-more : client_of secret view c new ≡ client_after secret view (client_of secret view c es) e
-  client-more = ap (client_of secret view c) longer ∙ client-join secret view c es (e ∷ [])
+module _ (secret : List ℕ) (c : Client) (es new : List TrailEvent) (e : TrailEvent) (longer : new ≡ es ++ e ∷ []) where
+  pub client-more : client_of secret c new ≡ client_after secret (client_of secret c es) e
+  client-more = ap (client_of secret c) longer ∙ client-join secret c es (e ∷ [])
 
-  pub asks-more : MayCome secret (client_of secret view c es) e → Asks secret view c es → Asks secret view c new
-  asks-more may asked = subst (Asks secret view c) (sym longer) (asks-join secret view c es (e ∷ []) asked (may, tt))
+  pub asks-more : MayCome secret (client_of secret c es) e → Asks secret c es → Asks secret c new
+  asks-more may asked = subst (Asks secret c) (sym longer) (asks-join secret c es (e ∷ []) asked (may, tt))
 
   -- a client that its trail makes has heard what came
-  pub client-heard : (bytes : List ℕ) (old now : Client) → e ≡ Happens (Arrive bytes) → old ≡ client_of secret view c es → now ≡ after_bytes secret view old bytes → now ≡ client_of secret view c new
+  pub client-heard : (bytes : List ℕ) (old now : Client) → e ≡ Happens (Arrive bytes) → old ≡ client_of secret c es → now ≡ after_bytes secret old bytes → now ≡ client_of secret c new
   client-heard bytes old now is was heard =
-      heard ∙ ap (λ (x : Client). after_bytes secret view x bytes) was ∙ sym (client-more ∙ ap (client_after secret view (client_of secret view c es)) is)
+      heard ∙ ap (λ (x : Client). after_bytes secret x bytes) was ∙ sym (client-more ∙ ap (client_after secret (client_of secret c es)) is)
 
 pub sends-more : (es new : List TrailEvent) (e : TrailEvent) → new ≡ es ++ e ∷ [] → sent_by e ≡ [] → sends new ≡ sends es
 sends-more es new e longer none =
@@ -102,7 +102,7 @@ polled-same told es new e longer same few =
 
 -- ---- a request
 
-module _ (secret : List ℕ) (view : View) (c : Client) (es new : List TrailEvent) (op : List ℕ) (targets : List Target) (was : Client) (kept : was ≡ client_of secret view c es) (posted : IsPosted (ask_by secret was op) targets es new) where
+module _ (secret : List ℕ) (c : Client) (es new : List TrailEvent) (op : List ℕ) (targets : List Target) (was : Client) (kept : was ≡ client_of secret c es) (posted : IsPosted (ask_by secret was op) targets es new) where
   abbrev a : Addressed
   a = ask_by secret was op
 
@@ -113,18 +113,18 @@ module _ (secret : List ℕ) (view : View) (c : Client) (es new : List TrailEven
   only = losts-only a targets posted.dropped
 
   abbrev before : Client
-  before = client_of secret view c es
+  before = client_of secret c es
 
-  pub client-asked : client_of secret view c new ≡ asking was (request_of was op)
+  pub client-asked : client_of secret c new ≡ asking was (request_of was op)
   client-asked =
-      ap (client_of secret view c) posted.after_is ∙ client-join secret view c es (Send a ∷ lost) ∙ client-lost secret view (client_after secret view before (Send a)) a lost only
-      ∙ ap (λ (x : Client). client_after secret view x (Send a)) (sym kept)
+      ap (client_of secret c) posted.after_is ∙ client-join secret c es (Send a ∷ lost) ∙ client-lost secret (client_after secret before (Send a)) a lost only
+      ∙ ap (λ (x : Client). client_after secret x (Send a)) (sym kept)
 
-  pub asks-asked : was.waiting ≡ None → Asks secret view c es → Asks secret view c new
+  pub asks-asked : was.waiting ≡ None → Asks secret c es → Asks secret c new
   asks-asked idle asked =
-      subst (Asks secret view c) (sym posted.after_is)
-      (asks-join secret view c es (Send a ∷ lost) asked
-      (subst (λ (x : Client). MayCome secret x (Send a)) kept (refl, idle, refl), asks-lost secret view (client_after secret view before (Send a)) a lost only))
+      subst (Asks secret c) (sym posted.after_is)
+      (asks-join secret c es (Send a ∷ lost) asked
+      (subst (λ (x : Client). MayCome secret x (Send a)) kept (refl, idle, refl), asks-lost secret (client_after secret before (Send a)) a lost only))
 
   -- no poll is told since
   pub polled-asked : 0 ≡ min (polls_since 0 new) (2 ^ 64 - 1)

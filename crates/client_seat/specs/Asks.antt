@@ -2,7 +2,6 @@
 use Rattle.std.proofs.Common.{◌≡◌, ℕ, ◌+◌, ◌==◌, cond, List, [], ◌∷◌, ◌++◌, get_or, Option, Some, None}
 use Rattle.std.proofs.Props.{props}
 use Rattle.std.specs.Option.{option_to_list}
-use Rattle.smart_base.specs.Views.{View}
 use Rattle.smart_statements.specs.Forms.{SignedBy}
 use Rattle.smart_statements.specs.Kinds.{requests}
 use Rattle.smart_statements.specs.declared.entry.NodeEvent.{NodeEvent}
@@ -11,7 +10,8 @@ use Rattle.smart_statements.specs.declared.statement.Request.{Request}
 use Rattle.smart_messages.specs.Messages.{request_in}
 use Rattle.smart_messages.specs.declared.message.Message.TheVariants.{Ask}
 use Rattle.replica_rules.specs.Seals.{signed}
-use Rattle.client_quorum.specs.Clients.{request_of, asking, heard_bytes, after_bytes}
+use Rattle.client_quorum.specs.Clients.{request_of, asking}
+use Rattle.client_quorum.specs.Readings.{heard_bytes, after_bytes}
 use Rattle.client_quorum.specs.Quorums.{accepted_in}
 use Rattle.client_quorum.specs.declared.client.Acceptance.{Acceptance}
 use Rattle.client_quorum.specs.declared.client.Client.{Client}
@@ -30,20 +30,20 @@ after_sent c None = c
 after_sent c (Some q) = asking c q.statement
 
 -- after an event of its trail: what came was heard
-abbrev pub client_after : List ℕ → View → Client → TrailEvent → Client
-client_after secret view c (Happens (Arrive bytes)) = after_bytes secret view c bytes
-client_after secret view c (Happens Tick) = c
-client_after secret view c (Happens Deliver) = c
-client_after secret view c (Happens (Firm count)) = c
-client_after secret view c (Send a) = after_sent c (request_in a.message)
-client_after secret view c (Lost a) = c
-client_after secret view c (Polls count) = c
-client_after secret view c End = c
+abbrev pub client_after : List ℕ → Client → TrailEvent → Client
+client_after secret c (Happens (Arrive bytes)) = after_bytes secret c bytes
+client_after secret c (Happens Tick) = c
+client_after secret c (Happens Deliver) = c
+client_after secret c (Happens (Firm count)) = c
+client_after secret c (Send a) = after_sent c (request_in a.message)
+client_after secret c (Lost a) = c
+client_after secret c (Polls count) = c
+client_after secret c End = c
 
 -- the client that the events of a trail make, one after the other
-abbrev pub client_of : List ℕ → View → Client → List TrailEvent → Client
-client_of secret view c [] = c
-client_of secret view c (e ∷ events) = client_of secret view (client_after secret view c e) events
+abbrev pub client_of : List ℕ → Client → List TrailEvent → Client
+client_of secret c [] = c
+client_of secret c (e ∷ events) = client_of secret (client_after secret c e) events
 
 -- ---- what it asked
 
@@ -76,26 +76,26 @@ MayCome secret c (Polls count) = Unit {0}
 MayCome secret c End = Unit {0}
 
 -- events each of which may come where it stands: each message that was sent is the request that the client had to ask next
-abbrev pub Asks : List ℕ → View → Client → List TrailEvent → Type 0
-Asks secret view c [] = Unit {0}
-Asks secret view c (e ∷ events) = MayCome secret c e × Asks secret view (client_after secret view c e) events
+abbrev pub Asks : List ℕ → Client → List TrailEvent → Type 0
+Asks secret c [] = Unit {0}
+Asks secret c (e ∷ events) = MayCome secret c e × Asks secret (client_after secret c e) events
 
 -- ---- what it accepted
 
-abbrev pub accepted_by : List ℕ → View → Client → TrailEvent → Option Acceptance
-accepted_by secret view c (Happens (Arrive bytes)) = accepted_in (heard_bytes secret view c bytes)
-accepted_by secret view c (Happens Tick) = None
-accepted_by secret view c (Happens Deliver) = None
-accepted_by secret view c (Happens (Firm count)) = None
-accepted_by secret view c (Send a) = None
-accepted_by secret view c (Lost a) = None
-accepted_by secret view c (Polls count) = None
-accepted_by secret view c End = None
+abbrev pub accepted_by : List ℕ → Client → TrailEvent → Option Acceptance
+accepted_by secret c (Happens (Arrive bytes)) = accepted_in (heard_bytes secret c bytes)
+accepted_by secret c (Happens Tick) = None
+accepted_by secret c (Happens Deliver) = None
+accepted_by secret c (Happens (Firm count)) = None
+accepted_by secret c (Send a) = None
+accepted_by secret c (Lost a) = None
+accepted_by secret c (Polls count) = None
+accepted_by secret c End = None
 
 -- the acceptances of a trail, in order
-abbrev pub acceptances : List ℕ → View → Client → List TrailEvent → List Acceptance
-acceptances secret view c [] = []
-acceptances secret view c (e ∷ events) = option_to_list (accepted_by secret view c e) ++ acceptances secret view (client_after secret view c e) events
+abbrev pub acceptances : List ℕ → Client → List TrailEvent → List Acceptance
+acceptances secret c [] = []
+acceptances secret c (e ∷ events) = option_to_list (accepted_by secret c e) ++ acceptances secret (client_after secret c e) events
 
 -- ---- links
 
@@ -137,9 +137,9 @@ may_prop secret c (Lost a) = hlevel props
 may_prop secret c (Polls count) = hlevel props
 may_prop secret c End = hlevel props
 
-pub asks_prop : (secret : List ℕ) (view : View) (c : Client) (events : List TrailEvent) → IsProp (Asks secret view c events)
-asks_prop secret view c [] = hlevel props
-asks_prop secret view c (e ∷ events) =
+pub asks_prop : (secret : List ℕ) (c : Client) (events : List TrailEvent) → IsProp (Asks secret c events)
+asks_prop secret c [] = hlevel props
+asks_prop secret c (e ∷ events) =
     let first = may_prop secret c e in
-    let rest = asks_prop secret view (client_after secret view c e) events in
+    let rest = asks_prop secret (client_after secret c e) events in
     hlevel (props, first, rest)

@@ -19,9 +19,7 @@ use group_links::outward::LinkOut;
 use node_rules::node::Target;
 use queue_ends::told::Told;
 use smart_base::bytes::Payload;
-use smart_base::name::ClientId;
 use smart_base::sequence::Bytes;
-use smart_base::view::View;
 use smart_io::stream::Sink;
 use smart_keys::ring::Ring;
 use smart_messages::message::Message;
@@ -43,7 +41,6 @@ pub struct ClientSeat<P: Owner, O: Sink> {
     pub(crate) alloc: Global,
     pub(crate) client: Client,
     pub(crate) ring: Ring,
-    pub(crate) view: View,
     pub(crate) journal: Journal<P, O>,
     pub(crate) ports: Vec<Port>,
     pub(crate) inbox: Inbox,
@@ -58,9 +55,9 @@ pub struct ClientSeat<P: Owner, O: Sink> {
     pub ghost number: { journal.number ≡ 0 },
     pub ghost whole: { over ≡ false → journal.whole ≡ true },
     pub ghost head: { ((P.head 0).member ≡ 0) × (((P.head 0).entries ≡ 0) × (P.entries 0 ≡ [])) },
-    pub ghost group: { (ring ≡ (P.head 0).secret) × (view ≡ (P.head 0).view) },
-    pub ghost kept: { over ≡ false → client ≡ client_of (P.head 0).secret (P.head 0).view (fresh 1) journal.events.items },
-    pub ghost asks: { Asks (P.head 0).secret (P.head 0).view (fresh 1) journal.events.items } by { asks_prop (P.head 0).secret (P.head 0).view (fresh 1) journal.events.items },
+    pub ghost group: { ring ≡ (P.head 0).secret },
+    pub ghost kept: { over ≡ false → client ≡ client_of (P.head 0).secret (fresh (P.head 0).view 1) journal.events.items },
+    pub ghost asks: { Asks (P.head 0).secret (fresh (P.head 0).view 1) journal.events.items } by { asks_prop (P.head 0).secret (fresh (P.head 0).view 1) journal.events.items },
     pub ghost came: { HasCome journal.events.items pending inbox.links.items } by { pending_prop journal.events.items pending inbox.links.items },
     pub ghost left: { Each (CarriesFirst journal.events.items) ports.items } by { first_prop journal.events.items ports.items },
     pub ghost all_left: { over ≡ false → Each (Carries journal.events.items) ports.items } by { carries_prop over journal.events.items ports.items },
@@ -88,7 +85,6 @@ impl<P: Owner, O: Sink + Drop> Drop for ClientSeat<P, O> {
             alloc: _,
             client: _,
             ring: _,
-            view: _,
             journal: _,
             ports: _,
             inbox: _,
@@ -116,7 +112,8 @@ impl<P: Owner, O: Sink> ClientSeat<P, O> {
     ghost use Rattle.faults.specs.Counts.{Rose};
     ghost use Rattle.smart_base.specs.Lists.{Each};
     ghost use Rattle.smart_statements.specs.declared.entry.NodeEvent.TheVariants.{Arrive};
-    ghost use Rattle.client_quorum.specs.Clients.{fresh, request_of, asking, heard_bytes};
+    ghost use Rattle.client_quorum.specs.Clients.{fresh, request_of, asking};
+    ghost use Rattle.client_quorum.specs.Readings.{heard_bytes};
     ghost use Rattle.trail.specs.Trails.{trail_text};
     ghost use Rattle.trail.specs.declared.event.TrailEvent.TheVariants.{Happens, End};
     ghost use Rattle.queue_ends.specs.Ends.{told_put, told_queue};
@@ -127,31 +124,30 @@ impl<P: Owner, O: Sink> ClientSeat<P, O> {
     ghost use Rattle.group_ends.specs.Ports.{ends, port_links, inbox_links, takings, heard_puts, heard_and_taken, AreApart, Carries, CarriesFirst, IsPosted, IsEmptied};
     ghost use Rattle.client_seat.specs.Asks.{carried_at, client_of, ask_by, Asks, polls_since, told_polls};
 
-    /// A client that has not asked, over the client's journal of nothing, links on which nothing was put, and
-    /// links from which nothing was taken. The head of its trail is a client's: it has number 0, and nothing
-    /// was restored.
+    /// A client that has not asked and knows the group's first view, over the client's journal of nothing, links
+    /// on which nothing was put, and links from which nothing was taken. The head of its trail is a client's: it
+    /// has number 0, and nothing was restored.
     pub fn new(
         alloc: Global,
         ring: Ring,
-        view: View,
+        client: Client,
         journal: Journal<P, O>,
         ports: Vec<Port>,
         inbox: Inbox,
     ) -> ClientSeat<P, O>
         requires head { ((P.head 0).member ≡ 0) × (((P.head 0).entries ≡ 0) × (P.entries 0 ≡ [])) }
-        requires group { (ring ≡ (P.head 0).secret) × (view ≡ (P.head 0).view) }
+        requires group { (ring ≡ (P.head 0).secret) × (client ≡ fresh (P.head 0).view 1) }
         requires journal { (journal.number ≡ 0) × (journal.events.items ≡ []) × (journal.whole ≡ true) }
         requires ports { AreApart (ends ports.items) × Each (Carries []) ports.items }
         requires inbox { Each (λ taken. taken ≡ []) (takings inbox.links.items) }
         requires named { (ends ports.items ≡ P.receivers 0) × (port_links ports.items ≡ P.leaving 0) × (inbox_links inbox.links.items ≡ P.arriving 0) }
         ensures events { (result.journal ≡ journal) × (result.over ≡ false) }
-        ensures client { (result.client ≡ fresh 1) × (result.pending ≡ None) × (result.idle ≡ 0) }
+        ensures client { (result.client ≡ client) × (result.pending ≡ None) × (result.idle ≡ 0) }
     {
         ClientSeat {
             alloc,
-            client: Client::new(alloc, ClientId::new(CLIENT)),
+            client,
             ring,
-            view,
             journal,
             ports,
             inbox,
@@ -282,7 +278,7 @@ impl<P: Owner, O: Sink> ClientSeat<P, O> {
         requires going { has_end self.old.journal.events.items ≡ false }
         ensures ok { IfOk result (λ found. MatchOption found
             ((self.old.pending ≡ None) × (self.new.journal.events.items ≡ self.old.journal.events.items))
-            (λ heard. (bytes : List ℕ) × (self.old.pending ≡ Some bytes) × (heard ≡ heard_bytes (P.head 0).secret (P.head 0).view self.old.client bytes) × (self.new.journal.events.items ≡ self.old.journal.events.items ++ Happens (Arrive bytes) ∷ []))) }
+            (λ heard. (bytes : List ℕ) × (self.old.pending ≡ Some bytes) × (heard ≡ heard_bytes (P.head 0).secret self.old.client bytes) × (self.new.journal.events.items ≡ self.old.journal.events.items ++ Happens (Arrive bytes) ∷ []))) }
         ensures played { OnOk result ((self.new.pending ≡ None) × (self.new.over ≡ false)) }
         ensures idle { self.new.idle ≡ 0 }
         ensures going { has_end self.new.journal.events.items ≡ false }
@@ -295,10 +291,7 @@ impl<P: Owner, O: Sink> ClientSeat<P, O> {
             return Ok(None);
         };
         self.over = true;
-        let Ok(heard) = self
-            .client
-            .hear(self.alloc, &self.view, &self.ring, bytes.as_slice())
-        else {
+        let Ok(heard) = self.client.hear(self.alloc, &self.ring, bytes.as_slice()) else {
             self.pending = Some(bytes);
             return Err(Fault::NoMemory);
         };
@@ -360,8 +353,8 @@ impl<P: Owner, O: Sink> ClientSeat<P, O> {
     pub fn into_parts(self) -> ClientParts<O>
         ensures events { (result.journal.events ≡ self.journal.events) × (result.journal.number ≡ 0) }
         ensures over { (result.over ≡ self.over) × (result.client ≡ self.client) × (result.pending ≡ self.pending) }
-        ensures client { result.over ≡ false → result.client ≡ client_of (P.head 0).secret (P.head 0).view (fresh 1) result.journal.events.items }
-        ensures asks { Asks (P.head 0).secret (P.head 0).view (fresh 1) result.journal.events.items }
+        ensures client { result.over ≡ false → result.client ≡ client_of (P.head 0).secret (fresh (P.head 0).view 1) result.journal.events.items }
+        ensures asks { Asks (P.head 0).secret (fresh (P.head 0).view 1) result.journal.events.items }
         ensures came { HasCome result.journal.events.items result.pending result.links.items }
         ensures left { Each (CarriesFirst result.journal.events.items) result.ports.items }
         ensures all_left { result.over ≡ false → Each (Carries result.journal.events.items) result.ports.items }
@@ -378,7 +371,6 @@ impl<P: Owner, O: Sink> ClientSeat<P, O> {
             alloc: _,
             client,
             ring: _,
-            view: _,
             journal,
             ports,
             inbox,

@@ -1,15 +1,16 @@
 //! A member's replica, to which batches are delivered.
-ghost use Rattle.std.specs.Prelude.{◌≡◌, ◌+◌, ◌^◌, ◌<◌, false, IfOk, OnOk};
+ghost use Rattle.std.specs.Prelude.{◌≡◌, ◌+◌, ◌^◌, ◌<◌, false, IfOk, OnOk, OnErr};
 ghost use Rattle.std.specs.Result.{is_err};
 ghost use Rattle.replica_rules.specs.Replicas.{delivered, executed_lines, empty};
+ghost use Rattle.delivery.specs.Moves.{IsBegun};
 
+use crate::delivered::Delivered;
 use crate::execute::execute_all;
 use smart_base::number::Place;
-use smart_base::sequence::Sequence;
 use smart_base::view::{View, Views};
 use smart_service::replica::Replica;
 use smart_service::service::Service;
-use smart_service::table::{ClientTable, Execution};
+use smart_service::table::ClientTable;
 use smart_statements::batch::Batch;
 use std::alloc::{AllocError, Global};
 
@@ -75,26 +76,28 @@ impl<S: Service> KeptReplica<S> {
 
 /// Executes a batch at the next place, and gives the executions, in order. A request is executed if
 /// its number may be executed then; any other is passed over. Each execution has the reply for its
-/// client. Error: want of memory; the replica is spent then. A valid state of the
-/// service stays valid in any case.
+/// client. A request of the view manager may begin a view at the place behind. Error: want of memory; the
+/// replica is spent then, and knows the views that it knew before. A valid state of the service stays
+/// valid in any case.
 #[tactic(auto, unfolding(replica_rules::specs::Replicas::delivered, replica_rules::specs::Replicas::executed_lines))]
 pub fn deliver<S: Service>(
     alloc: Global,
     replica: &mut KeptReplica<S>,
     batch: &Batch,
-) -> Result<Sequence<Execution>, AllocError>
+) -> Result<Delivered, AllocError>
     requires ready { replica.old.spent ≡ false }
     requires room { replica.old.replica.place + 1 < 2 ^ 63 }
     ensures state { OnOk result (replica.new.replica ≡ delivered S.meaning replica.old.replica batch.now) }
     ensures spent { replica.new.spent ≡ is_err result }
     ensures place { replica.new.replica.place ≡ replica.old.replica.place + 1 }
-    ensures views { replica.new.replica.views ≡ replica.old.replica.views }
     ensures valid { S.valid replica.old.replica.service → S.valid replica.new.replica.service }
-    ensures lines { IfOk result (λ lines. lines ≡ executed_lines S.meaning replica.old.replica batch.now) }
+    ensures lines { IfOk result (λ given. given.lines ≡ executed_lines S.meaning replica.old.replica batch.now) }
+    ensures begun { IfOk result (λ given. IsBegun replica.old.replica.views replica.new.replica.views given.begun) }
+    ensures views { OnErr result (replica.new.replica.views ≡ replica.old.replica.views) }
 {
     replica.spent = true;
     replica.replica.place = replica.replica.place.next();
-    let lines = execute_all(alloc, &mut replica.replica, batch)?;
+    let given = execute_all(alloc, &mut replica.replica, batch)?;
     replica.spent = false;
-    Ok(lines)
+    Ok(given)
 }

@@ -4,7 +4,7 @@ use Rattle.std.proofs.lemmas.Bool.{eqb-true, eq-eqb}
 use Rattle.smart_base.specs.Lists.{Each}
 use Rattle.smart_messages.specs.Messages.{spelling}
 use Rattle.node_rules.specs.declared.node.Target.{Target}
-use Rattle.node_rules.specs.declared.node.Target.TheVariants.{Node, Client, View}
+use Rattle.node_rules.specs.declared.node.Target.TheVariants.{Node, Client, View, Clients}
 use Rattle.trail.specs.declared.event.Addressed.{Addressed}
 use Rattle.trail.specs.declared.event.TrailEvent.{TrailEvent}
 use Rattle.trail.specs.declared.event.TrailEvent.TheVariants.{Happens, Send, Lost, Polls, End}
@@ -17,29 +17,44 @@ pub same-itself : (t : Target) → same_target t t ≡ true
 same-itself (Node a) = eq-eqb a a refl
 same-itself (Client a) = eq-eqb a a refl
 same-itself View = refl
+same-itself Clients = refl
 
 same-is : (s t : Target) → same_target s t ≡ true → s ≡ t
 same-is (Node a) (Node b) e = ap Node (eqb-true a b e)
 same-is (Node a) (Client b) e = absurd (true≢false (sym e))
 same-is (Node a) View e = absurd (true≢false (sym e))
+same-is (Node a) Clients e = absurd (true≢false (sym e))
 same-is (Client a) (Node b) e = absurd (true≢false (sym e))
 same-is (Client a) (Client b) e = ap Client (eqb-true a b e)
 same-is (Client a) View e = absurd (true≢false (sym e))
+same-is (Client a) Clients e = absurd (true≢false (sym e))
 same-is View (Node b) e = absurd (true≢false (sym e))
 same-is View (Client b) e = absurd (true≢false (sym e))
 same-is View View e = refl
+same-is View Clients e = absurd (true≢false (sym e))
+same-is Clients (Node b) e = absurd (true≢false (sym e))
+same-is Clients (Client b) e = absurd (true≢false (sym e))
+same-is Clients View e = absurd (true≢false (sym e))
+same-is Clients Clients e = refl
 
 -- the ends of two links are two receivers
 pub end-apart : (s t : Target) → same_end s t ≡ false → same_target s t ≡ false
 end-apart (Node a) (Node b) e = e
 end-apart (Node a) (Client b) e = refl
 end-apart (Node a) View e = refl
+end-apart (Node a) Clients e = refl
 end-apart (Client a) (Node b) e = refl
 end-apart (Client a) (Client b) e = absurd (true≢false e)
 end-apart (Client a) View e = refl
+end-apart (Client a) Clients e = refl
 end-apart View (Node b) e = refl
 end-apart View (Client b) e = refl
 end-apart View View e = e
+end-apart View Clients e = refl
+end-apart Clients (Node b) e = refl
+end-apart Clients (Client b) e = refl
+end-apart Clients View e = refl
+end-apart Clients Clients e = e
 
 -- apart from each other, told the other way round
 pub apart-back : (s t : Target) → same_target s t ≡ false → same_target t s ≡ false

@@ -4,7 +4,7 @@ use Rattle.std.specs.List.{list_any}
 use Rattle.smart_base.specs.Lists.{same_bytes}
 use Rattle.smart_messages.specs.Messages.{spelling}
 use Rattle.node_rules.specs.declared.node.Target.{Target}
-use Rattle.node_rules.specs.declared.node.Target.TheVariants.{Node, Client, View}
+use Rattle.node_rules.specs.declared.node.Target.TheVariants.{Node, Client, View, Clients}
 use Rattle.trail.specs.declared.event.Addressed.{Addressed}
 use Rattle.trail.specs.declared.event.TrailEvent.{TrailEvent}
 use Rattle.trail.specs.declared.event.TrailEvent.TheVariants.{Happens, Send, Lost, Polls, End}
@@ -16,37 +16,58 @@ abbrev pub same_target : Target → Target → Bool
 same_target (Node a) (Node b) = a == b
 same_target (Node a) (Client b) = false
 same_target (Node a) View = false
+same_target (Node a) Clients = false
 same_target (Client a) (Node b) = false
 same_target (Client a) (Client b) = a == b
 same_target (Client a) View = false
+same_target (Client a) Clients = false
 same_target View (Node b) = false
 same_target View (Client b) = false
 same_target View View = true
+same_target View Clients = false
+same_target Clients (Node b) = false
+same_target Clients (Client b) = false
+same_target Clients View = false
+same_target Clients Clients = true
 
--- Whether the end of a link is to hear a message for this receiver. A view is all members. A group has one client, which hears what is for any.
--- INTERIM(views): all members of the group are those of its view.
+-- Whether the end of a link is to hear a message for this receiver. A view is all members. A group has one client, which hears what is for any
+-- or for all. INTERIM(views): all members of the group are those of its view.
 abbrev pub is_for : Target → Target → Bool
 is_for (Node a) (Node b) = a == b
 is_for (Node a) (Client b) = false
 is_for (Node a) View = false
+is_for (Node a) Clients = false
 is_for (Client a) (Node b) = false
 is_for (Client a) (Client b) = true
 is_for (Client a) View = false
+is_for (Client a) Clients = false
 is_for View (Node b) = true
 is_for View (Client b) = false
 is_for View View = false
+is_for View Clients = false
+is_for Clients (Node b) = false
+is_for Clients (Client b) = true
+is_for Clients View = false
+is_for Clients Clients = false
 
 -- Ends of the same link. A group has one client, so it has one link to a client.
 abbrev pub same_end : Target → Target → Bool
 same_end (Node a) (Node b) = a == b
 same_end (Node a) (Client b) = false
 same_end (Node a) View = false
+same_end (Node a) Clients = false
 same_end (Client a) (Node b) = false
 same_end (Client a) (Client b) = true
 same_end (Client a) View = false
+same_end (Client a) Clients = false
 same_end View (Node b) = false
 same_end View (Client b) = false
 same_end View View = true
+same_end View Clients = false
+same_end Clients (Node b) = false
+same_end Clients (Client b) = false
+same_end Clients View = false
+same_end Clients Clients = true
 
 -- ---- what a link carries
 

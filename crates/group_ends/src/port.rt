@@ -2,7 +2,7 @@
 ghost use Rattle.std.specs.Prelude.{◌≡◌, ℕ};
 ghost use Rattle.group_links.specs.Link.{link_capacity};
 ghost use Rattle.group_ends.specs.Carried.{is_for};
-ghost use Rattle.node_rules.specs.declared.node.Target.TheVariants.{Node, Client, View};
+ghost use Rattle.node_rules.specs.declared.node.Target.TheVariants.{Node, Client, View, Clients};
 
 use group_links::inward::{LinkIn, Sending};
 use node_rules::node::Target;
@@ -29,19 +29,18 @@ fn is_member(end: Target, member: MemberId) -> bool
 {
     match end {
         Target::Node(other) => member.get() == other.get(),
-        Target::Client(_) => false,
-        Target::View => false,
+        Target::Client(_) | Target::View | Target::Clients => false,
     }
 }
 
 /// Whether this is the end of the link to the client.
 fn is_client(end: Target) -> bool
-    ensures { (id : ℕ) → result ≡ is_for (Client id) end }
+    ensures one { (id : ℕ) → result ≡ is_for (Client id) end }
+    ensures all { result ≡ is_for Clients end }
 {
     match end {
-        Target::Node(_) => false,
+        Target::Node(_) | Target::View | Target::Clients => false,
         Target::Client(_) => true,
-        Target::View => false,
     }
 }
 
@@ -51,8 +50,7 @@ fn is_of_view(end: Target) -> bool
 {
     match end {
         Target::Node(_) => true,
-        Target::Client(_) => false,
-        Target::View => false,
+        Target::Client(_) | Target::View | Target::Clients => false,
     }
 }
 
@@ -64,6 +62,7 @@ pub fn is_for(to: Target, end: Target) -> bool
         Target::Node(member) => is_member(end, member),
         Target::Client(_) => is_client(end),
         Target::View => is_of_view(end),
+        Target::Clients => is_client(end),
     }
 }
 

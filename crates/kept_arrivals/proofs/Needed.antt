@@ -25,7 +25,7 @@ use Rattle.regency_sync.proofs.Lists.{any_filter, filter_filter, find_alike, fil
 use Rattle.regency_sync.proofs.Needs.{needed_earlier}
 use Rattle.node_rules.specs.Votes.{is_vote, has_vote, has_quorum, certificate, vote_for, first_vote, certificate_votes, proposed_in, proposed_for, Named, named_in, named_by, known, decision_by, accepted_in}
 use Rattle.node_rules.specs.Arrivals.{is_same_proposal, is_same_vote}
-use Rattle.node_rules.specs.Nodes.{Node, view_of, regency_of, next_place, decided_place, open_slot, is_free, is_open, has_begun, start_of, greatest_regency}
+use Rattle.node_rules.specs.Nodes.{Node, entered, view_of, regency_of, next_place, decided_place, open_slot, is_free, is_open, has_begun, start_of, greatest_regency}
 use Rattle.kept_arrivals.proofs.Filters.{filter_map_kept}
 use Rattle.vote_book.proofs.Tested.{slot_is}
 use Rattle.node_rules.proofs.Options.{none_is, guard_passed}
@@ -216,6 +216,12 @@ trimmed_behind c r n places regencies = trim_later (view_of n).number c r (decid
 pub trimmed_twice : {S : Type 0} (n : Node S) → trimmed (trimmed n) ≡ trimmed n
 unfolding trimmed
 trimmed_twice n = trimmed_behind (decided_place n) (regency_of n) n (omega arith) (omega arith)
+
+-- What is needed in a node's view stays so where it stays in that view. Where it enters another one, nothing is kept that would be needed.
+pub entered_trim : {S : Type 0} (t : Bool) (v w c r q : ℕ) (n : Node S) → (t ≡ true → v ≡ w) → (t ≡ true → r ≡ q) → entered t (trim v c r n) ≡ trim w c q (entered t n)
+entered_trim {S = S} true v w c r q n view regency =
+    ap (λ (k : ℕ). trim k c r (entered true n)) (view refl) ∙ ap (λ (k : ℕ). trim w c k (entered true n)) (regency refl)
+entered_trim false v w c r q n view regency = refl
 
 -- entries take no promise back
 pub regency_grows : (view : ℕ) (entries more : List LogEntry) → greatest_regency view entries ≤ greatest_regency view (entries ++ more)

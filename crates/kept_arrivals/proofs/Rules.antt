@@ -1,5 +1,5 @@
 -- Each rule by which requests are ordered and answered, on what is needed.
-use Rattle.std.proofs.Common.{◌≡◌, ℕ, ◌+◌, ◌^◌, ◌≤◌, Bool, true, false, not, ◌&&◌, ◌==◌, nat_lt, List, [], ◌∷◌, ◌++◌, refl, ap, sym, ◌∙◌, cond, arith, Option, Some, None, is_some}
+use Rattle.std.proofs.Common.{◌≡◌, ℕ, ◌+◌, ◌^◌, ◌≤◌, Bool, true, false, not, ◌&&◌, ◌==◌, nat_lt, nat_le, List, [], ◌∷◌, ◌++◌, length, refl, ap, sym, ◌∙◌, cond, arith, Option, Some, None, is_some}
 use Rattle.std.proofs.lemmas.Bool.{eqb-true, lt-ltb}
 use Rattle.std.specs.Prelude.{filter, option_map}
 use Rattle.std.specs.List.{list_any}
@@ -25,16 +25,17 @@ use Rattle.regency_sync.proofs.Needs.{batch_same}
 use Rattle.replica_rules.specs.Replicas.{delivered}
 use Rattle.replica_rules.specs.Seals.{signed, digest_of}
 use Rattle.replica_rules.specs.Pools.{settled}
-use Rattle.node_rules.specs.Rules.{reply_of, replying, lines_to_answer, deliver_batch, delivery, delivers, batch_under, proposing, propose_batch, proposes, ballot, votable, writing, write_batch, writes, written, accepting, slot_in, accept_batch, accepts, decision_in, decision_ahead, decision_shown, shown_next, deciding, decide_batch, decides, answering, answer_line, answers_again}
+use Rattle.node_rules.specs.Rules.{reply_of, replying, lines_to_answer, deliver_batch, delivery, delivers, batch_under, proposing, propose_batch, proposes, ballot, votable, writing, write_batch, writes, written, accepting, slot_in, accept_batch, accepts, decision_in, decision_ahead, decision_shown, shown_next, deciding, decide_batch, decides, replies_with, answering, answer_line, answers_again}
 use Rattle.node_rules.specs.Marks.{mark_of, mark_place, marking, marks_place, marked}
-use Rattle.node_rules.specs.Nodes.{Node, view_of, regency_of, start_of, next_place, decided_place, open_slot, is_free, is_open, bound_at, synchronizer_of, greatest_regency, holding, recording}
+use Rattle.node_rules.specs.Nodes.{Node, entered, telling, informs, stays_in_view, view_of, regency_of, start_of, next_place, decided_place, open_slot, is_free, is_open, bound_at, synchronizer_of, greatest_regency, holding, recording}
 use Rattle.node_rules.specs.Votes.{certificate_votes, proposed_for, accepted_under}
+use Rattle.node_rules.specs.declared.node.Target.{Target}
 use Rattle.node_rules.specs.declared.node.Target.TheVariants as targets
 use Rattle.transfer_form.specs.declared.transfer.ProvenBatch.{ProvenBatch}
 use Rattle.node_rules.specs.Kept.{ahead_of, needed_by, is_later, trimmed}
 use Rattle.kept_arrivals.proofs.Filters.{where_true, and_where}
-use Rattle.kept_arrivals.proofs.Needed.{proposed_needed, proposal_kept, quorum_kept, certificate_kept, decision_kept, free_free, open_free, next_past, slot_ahead, open_ahead, trim, trimmed_behind, trimmed_twice, regency_grows}
-use Rattle.replica_rules.proofs.Places.{place_delivered, views_delivered}
+use Rattle.kept_arrivals.proofs.Needed.{entered_trim, proposed_needed, proposal_kept, quorum_kept, certificate_kept, decision_kept, free_free, open_free, next_past, slot_ahead, open_ahead, trim, trimmed_behind, trimmed_twice, regency_grows}
+use Rattle.replica_rules.proofs.Places.{place_delivered}
 use Rattle.node_rules.proofs.Options.{guard_passed}
 use Rattle.node_rules.specs.declared.node.Asked.{Asked}
 use Rattle.node_rules.specs.declared.node.Fired.{Fired}
@@ -221,10 +222,14 @@ pub answering_same : {S : Type 0} (n : Node S) (asked : Asked) → answering (tr
 unfolding answering trimmed
 answering_same n asked = refl
 
+telling_same : {S : Type 0} (known : Bool) (to : Target) (n : Node S) → telling known to (trimmed n) ≡ trimmed (telling known to n)
+unfolding trimmed regency_of
+telling_same known to n = refl
+
 answer_same : {S : Type 0} (n : Node S) (line : Option Execution) → answer_line (trimmed n) line ≡ trimmed (answer_line n line)
 unfolding answer_line trimmed regency_of
 answer_same n None = refl
-answer_same n (Some line) = refl
+answer_same n (Some line) = telling_same (nat_le (length n.replica.views) 1) (targets.Client line.client) (replies_with n line)
 
 answers_exact : {S : Type 0} (asked : Asked) (n : Node S) → answers_again (trimmed n) asked ≡ trimmed (answers_again n asked)
 unfolding answers_again
@@ -248,17 +253,24 @@ replying_same n (l ∷ ls) = ap (λ x. replying x ls) (holding_same n l) ∙ rep
 decided-delivered : {S : Type 0} (m : Meaning S) (n : Node S) (batch : Batch) → n.waiting ≡ Some batch → decided_place n ≡ (delivered m n.replica batch).place
 decided-delivered m n batch is = rw is (sym (place_delivered m n.replica batch))
 
--- the place that counts as past, the view and the regency are the same before and after
+-- the place that counts as past is the same before and after; the view and the regency are, unless the batch begins a view
 deliver_same : {S : Type 0} (m : Meaning S) (n : Node S) (batch : Option Batch) → n.waiting ≡ batch → deliver_batch m (trimmed n) batch ≡ trimmed (deliver_batch m n batch)
 unfolding deliver_batch trimmed regency_of
 deliver_same m n None is = refl
 deliver_same {S = S} m n (Some batch) is =
     let after : Node S = record n { replica = delivered m n.replica batch; waiting = None; pool = settled (delivered m n.replica batch).table n.pool; impatient = false } in
     let lines : List Execution = lines_to_answer m n batch in
-    ap (λ (c : ℕ). replying (trim (view_of n).number c (regency_of n) after) lines) (decided-delivered m n batch is)
-    ∙ (ap (λ (views : List View). replying (trim (present views).number (delivered m n.replica batch).place (greatest_regency (present views).number n.entries) after) lines)
-    (sym (views_delivered m n.replica batch))
-    ∙ replying_same after lines)
+    let t : Bool = stays_in_view n after in
+    let v : ℕ = (view_of n).number in
+    let w : ℕ = (view_of after).number in
+    let view : t ≡ true → v ≡ w = (λ stays. eqb-true v w stays) in
+    let all : Node S = replying (entered t after) lines in
+    ap (λ (x : Node S). informs n x)
+    (ap (λ (c : ℕ). replying (entered t (trim v c (regency_of n) after)) lines) (decided-delivered m n batch is)
+    ∙ (ap (λ (x : Node S). replying x lines)
+    (entered_trim t v w (delivered m n.replica batch).place (regency_of n) (greatest_regency w n.entries) after view (λ stays. ap (λ (k : ℕ). greatest_regency k n.entries) (view stays)))
+    ∙ replying_same (entered t after) lines))
+    ∙ telling_same (stays_in_view n all) targets.Clients all
 
 waiting_same : {S : Type 0} (n : Node S) → (trimmed n).waiting ≡ n.waiting
 unfolding trimmed

@@ -1,8 +1,8 @@
 -- Each rule by which a node takes over a replica or gives its own, on what is needed.
 use Rattle.std.proofs.Common.{◌≡◌, ℕ, ◌==◌, ◌<◌, ◌≤◌, ◌++◌, subst, Bool, true, false, ◌&&◌, nat_lt, List, [], ◌∷◌, refl, ap, sym, ◌∙◌, cond, arith, Option, Some, None, is_none, Result, Ok, Err}
 use Rattle.std.proofs.lemmas.Bool.{eqb-true, ltb-true}
-use Rattle.smart_base.specs.Views.{View, present}
-use Rattle.smart_base.proofs.SameLists.{and_true, same_list-equal}
+use Rattle.smart_base.specs.Views.{present}
+use Rattle.smart_base.proofs.SameLists.{and_true}
 use Rattle.std.specs.List.{filter_map, cons_option}
 use Rattle.smart_messages.specs.declared.message.Message.{Message}
 use Rattle.smart_messages.specs.declared.message.Message.TheVariants as changes
@@ -16,9 +16,11 @@ use Rattle.state_transfer.specs.declared.choice.Plan.{Plan}
 use Rattle.state_transfer.specs.declared.fetch.Fetch.{Fetch}
 use Rattle.state_transfer.specs.declared.fetch.Spoiled.{Spoiled}
 use Rattle.state_transfer.proofs.Joined.{finished_place}
-use Rattle.node_rules.specs.Nodes.{Node, view_of, regency_of, greatest_regency, decided_place, holding, holding_all}
+use Rattle.replica_rules.specs.Pools.{settled}
+use Rattle.node_rules.specs.Changes.{state_ask}
+use Rattle.node_rules.specs.Nodes.{Node, entered, view_of, regency_of, greatest_regency, decided_place, holding, holding_all, recording, stays_in_view}
 use Rattle.node_rules.specs.Marks.{newest_firm, firm_at}
-use Rattle.node_rules.specs.Transfers.{is_ready, ready, installing, installed_by, install_replica, same_view, is_of_group, spoil, install_by, install_fetch, install_told, installs, offer_for, places_after, shown_after, shown_at, offers_state, part_messages, gives_parts, answers_state, planning, follow_plan, plans, answers_call, answered_call}
+use Rattle.node_rules.specs.Transfers.{is_ready, ready, installing, installed_by, install_replica, is_of_group, keeps_over, spoil, install_by, install_fetch, install_told, installs, offer_for, places_after, shown_after, shown_at, offers_state, part_messages, gives_parts, answers_state, planning, follow_plan, plans, answers_call, answered_call}
 use Rattle.node_rules.specs.Rules.{fired_if}
 use Rattle.node_rules.specs.declared.node.Called.{Called}
 use Rattle.node_rules.specs.declared.node.Called.TheVariants as calls
@@ -139,35 +141,32 @@ pub installing_ready : {S : Type 0} (n : Node S) (f : Fetch) → installing n �
 unfolding installing
 installing_ready n f is = ready_is n n.fetch f is
 
--- views that a test finds alike
-view_equal : (a b : View) → same_view a b ≡ true → a ≡ b
-view_equal a b is =
-    let third = and_true ((a.number == b.number) && (a.start == b.start) && (a.f == b.f)) _ is in
-    let second = and_true ((a.number == b.number) && (a.start == b.start)) (a.f == b.f) third.0 in
-    let first = and_true (a.number == b.number) (a.start == b.start) second.0 in
-    let number : a.number ≡ b.number = eqb-true a.number b.number first.0 in
-    let start : a.start ≡ b.start = eqb-true a.start b.start first.1 in
-    let f : a.f ≡ b.f = eqb-true a.f b.f second.1 in
-    let members : a.members ≡ b.members = same_list-equal (λ x y. x == y) eqb-true a.members b.members third.1 in
-    λ i. record { number = number i; start = start i; f = f i; members = members i }
-
-pub views_equal : {S : Type 0} (n : Node S) (r : Replica S) → is_of_group n r ≡ true → r.views ≡ n.replica.views
-views_equal n r is = same_list-equal same_view view_equal r.views n.replica.views is
-
--- the regency in force is no earlier behind an installation
-regency_later : {S : Type 0} (n : Node S) (f : Fetch) (r : Replica S) → r.views ≡ n.replica.views → regency_of n ≤ regency_of (install_replica n f r)
+-- the regency in force is no earlier behind an installation that leaves the view
+regency_later : {S : Type 0} (n : Node S) (f : Fetch) (r : Replica S) → (view_of n).number ≡ (present r.views).number → regency_of n ≤ regency_of (install_replica n f r)
 unfolding install_replica regency_of
-regency_later n f r views =
-    subst (λ (vs : List View). greatest_regency (view_of n).number n.entries ≤ greatest_regency (present vs).number (n.entries ++ installed_by f.plan ∷ [])) (sym views)
+regency_later n f r view =
+    subst (λ (k : ℕ). greatest_regency (view_of n).number n.entries ≤ greatest_regency k (n.entries ++ installed_by f.plan ∷ [])) view
     (regency_grows (view_of n).number n.entries (installed_by f.plan ∷ []))
 
--- the replica that is installed is of a later place, and of the views that the node knows; what is needed behind it is needed now
-replica_same : {S : Type 0} (n : Node S) (f : Fetch) (r : Replica S) → n.waiting ≡ None → n.replica.place < r.place → r.views ≡ n.replica.views
-    → trimmed (install_replica (trimmed n) f r) ≡ trimmed (install_replica n f r)
+-- The replica that is installed is of a later place. What is needed behind it, in the view that was in force, is needed now. In a view that begins
+-- nothing is kept that would be.
+replica_same : {S : Type 0} (n : Node S) (f : Fetch) (r : Replica S) → n.waiting ≡ None → n.replica.place < r.place → trimmed (install_replica (trimmed n) f r) ≡ trimmed (install_replica n f r)
 unfolding install_replica trimmed regency_of
-replica_same n f r free later views =
-    subst (λ (vs : List View). trimmed (trim (present vs).number (decided_place n) (regency_of n) (install_replica n f r)) ≡ trimmed (install_replica n f r)) views
-    (trimmed_behind (decided_place n) (regency_of n) (install_replica n f r) (rw free (omega (arith, later))) (regency_later n f r views))
+replica_same {S = S} n f r free later = by (stays_in_view n before) refl
+  where
+    before : Node S
+    before = record (recording n (installed_by f.plan)) { replica = r; pool = settled r.table n.pool; fetch = None }
+
+    finish : Node S → Node S
+    finish x = holding (keeps_over x f) targets.View (state_ask (keeps_over x f) 0)
+
+    by : (t : Bool) → ((view_of n).number == (present r.views).number) ≡ t
+        → trimmed (finish (entered t (trim (view_of n).number (decided_place n) (regency_of n) before))) ≡ trimmed (finish (entered t before))
+    by true same =
+        let view : (view_of n).number ≡ (present r.views).number = eqb-true (view_of n).number (present r.views).number same in
+        subst (λ (k : ℕ). trimmed (trim k (decided_place n) (regency_of n) (finish (entered true before))) ≡ trimmed (finish (entered true before))) (sym view)
+        (trimmed_behind (decided_place n) (regency_of n) (finish (entered true before)) (rw free (omega (arith, later))) (regency_later n f r view))
+    by false moved = trimmed_behind (decided_place n) 0 (finish (entered false before)) (rw free (omega (arith, later))) (omega arith)
 
 spoil_same : {S : Type 0} (n : Node S) (f : Fetch) → trimmed (spoil (trimmed n) f) ≡ trimmed (spoil n f)
 unfolding spoil trimmed regency_of
@@ -189,7 +188,7 @@ by_same m n f (Ok r) is due = by (is_of_group n r) refl
     later = omega (arith, ltb-true n.replica.place f.plan.place facts.1, finished_place m f r is)
 
     by : (t : Bool) → is_of_group n r ≡ t → trimmed (cond t (install_replica (trimmed n) f r) (spoil (trimmed n) f)) ≡ trimmed (cond t (install_replica n f r) (spoil n f))
-    by true of = replica_same n f r free later (views_equal n r of)
+    by true of = replica_same n f r free later
     by false of = spoil_same n f
 
 fetch_same : {S : Type 0} (m : Meaning S) (n : Node S) (due : Option Fetch) → installing n ≡ due → trimmed (install_fetch m (trimmed n) due) ≡ trimmed (install_fetch m n due)

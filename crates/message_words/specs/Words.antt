@@ -38,6 +38,7 @@ summary_of (changes.Mark m) = summaries.Mark m.statement.place
 summary_of (changes.StateAsk a) = summaries.StateAsk a.place a.fetch
 summary_of (changes.StateOffer o) = summaries.Offer o.place (length o.marks)
 summary_of (changes.StatePart p) = summaries.Part p.place p.index p.total
+summary_of (changes.ViewTold i) = summaries.View i.statement.view.number
 
 -- a number after a space
 abbrev pub after_space : ℕ → List ℕ
@@ -66,4 +67,5 @@ summary_text (summaries.Mark k) = codes "mark" ++ after_space k
 summary_text (summaries.StateAsk q fetch) = codes "stateask" ++ (after_space q ++ after_space fetch)
 summary_text (summaries.Offer k marks) = codes "offer" ++ (after_space k ++ after_space marks)
 summary_text (summaries.Part k index total) = codes "part" ++ (after_space k ++ (after_space index ++ after_space total))
+summary_text (summaries.View v) = codes "view" ++ after_space v
 summary_text summaries.Raw = codes "raw"

@@ -83,6 +83,10 @@ pub enum Summary {
         index: u32,
         total: u32,
     },
+    /// A VIEWTOLD: the number of the view.
+    View {
+        view: ViewNo,
+    },
     /// Bytes that are no message.
     Raw,
 }
@@ -190,6 +194,9 @@ pub fn summary_of(message: &Message) -> Summary
             place: part.place,
             index: part.index,
             total: part.total,
+        },
+        Message::ViewTold(info) => Summary::View {
+            view: info.statement().view.number(),
         },
     }
 }
@@ -382,6 +389,7 @@ pub fn push_summary(out: &mut String, summary: Summary) -> Result<(), AllocError
             index,
             total,
         } => push_three(out, "part", place.get(), index as u64, total as u64),
+        Summary::View { view } => push_one(out, "view", view.get() as u64),
         Summary::Raw => out.push_str("raw"),
     }
 }

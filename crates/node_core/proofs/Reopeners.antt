@@ -2,13 +2,14 @@
 use Rattle.std.proofs.Common.{◌≡◌, ℕ, ◌+◌, ◌<◌, ◌≤◌, ◌++◌, take, drop, get_or, true, List, [], ◌∷◌, length, refl, ap, sym, subst, ◌∙◌, arith, Option, Some, None, is_some, option_map, zero, suc, Result, Ok, Err}
 use Rattle.std.specs.Result.{IsErrAnd}
 use Rattle.smart_base.specs.Lists.{or_else}
-use Rattle.smart_base.specs.Views.{View, present}
+use Rattle.smart_base.specs.Views.{View}
 use Rattle.smart_service.specs.Services.{Meaning}
 use Rattle.vote_book.specs.Books.{Among}
 use Rattle.vote_book.specs.Entries.{entry_decoded}
 use Rattle.vote_book.specs.declared.entry.LogEntry.{LogEntry}
 use Rattle.vote_book.specs.declared.entry.LogEntry.TheVariants.{Accepted}
 use Rattle.smart_service.specs.declared.replica.Replica.{Replica}
+use Rattle.replica_rules.specs.Replicas.{managed_of}
 use Rattle.node_rules.specs.Nodes.{Node}
 use Rattle.node_rules.specs.Reopening.{damaged, entries_in, stopped, reopened, replica_from, damaged_behind, damage_of, or_empty, checkpoint_of, outset_from, reopened_from}
 use Rattle.node_rules.specs.Steps.{Outset}
@@ -96,13 +97,13 @@ some_same : (a b : ℕ) → ◌≡◌ {A = Option ℕ} (Some a) (Some b) → a �
 some_same a b is = cc
 
 untaken : {S : Type 0} (m : Meaning S) (o : Outset S) (read : List (List ℕ)) (bytes : List ℕ) (r : Reopening S) (entry : ℕ) → IsAfter m o read r
-    → taken_after m r.secret r.restart (entry_decoded bytes) ≡ None → next_number r.restart ≡ Some entry → damaged o.secret o.replica.place (present o.replica.views) (read ++ bytes ∷ []) ≡ Some entry
+    → taken_after m r.secret r.restart (entry_decoded bytes) ≡ None → next_number r.restart ≡ Some entry → damaged o.secret o.replica.place (managed_of o.replica) (read ++ bytes ∷ []) ≡ Some entry
 untaken {S = S} m o read bytes r entry is none number =
     let at : ◌≡◌ {A = Option ℕ} (Some entry) (Some (length is.back.entries + 1)) = sym number ∙ ap (λ (x : Option (Restart S)). next_number x) is.going in
     read_damaged m o.secret o.replica read is.back bytes entry is.has (sym (taken_is m o read bytes r is) ∙ none, some_same entry (length is.back.entries + 1) at)
 
 pub after_damaged : {S : Type 0} (m : Meaning S) (o : Outset S) (read : List (List ℕ)) (bytes : List ℕ) (r : Reopening S) (entry : ℕ) → IsAfter m o read r → IsDamaged m r bytes entry
-    → damaged o.secret o.replica.place (present o.replica.views) (read ++ bytes ∷ []) ≡ Some entry
+    → damaged o.secret o.replica.place (managed_of o.replica) (read ++ bytes ∷ []) ≡ Some entry
 after_damaged m o read bytes r entry is damage =
     untaken m o read bytes r entry is (damage.1 is.whole) (sym (ap (λ (d : Option ℕ). or_else d (next_number r.restart)) is.whole) ∙ damage.0)
 
@@ -148,13 +149,13 @@ after_next {S = S} m o all i item bytes r later within at same is next some =
     (subst (λ (x : Reopening S). IsAfter m o (take i all ++ bytes ∷ []) x) (sym next) (after_more m o (take i all) bytes r is some))
 
 pub damaged_next : {S : Type 0} (m : Meaning S) (o : Outset S) (all : List (List ℕ)) (i : ℕ) (item bytes : List ℕ) (r : Reopening S) (entry : ℕ) → i < length all → item ≡ get_or all i item → bytes ≡ item → IsAfter m o (take i all) r
-    → IsDamaged m r bytes entry → damaged o.secret o.replica.place (present o.replica.views) all ≡ Some entry
+    → IsDamaged m r bytes entry → damaged o.secret o.replica.place (managed_of o.replica) all ≡ Some entry
 damaged_next m o all i item bytes r entry within at same is damage =
-    let front : damaged o.secret o.replica.place (present o.replica.views) (take (i + 1) all) ≡ Some entry =
-    subst (λ (xs : List (List ℕ)). damaged o.secret o.replica.place (present o.replica.views) xs ≡ Some entry) (take_next all i item bytes within at same)
+    let front : damaged o.secret o.replica.place (managed_of o.replica) (take (i + 1) all) ≡ Some entry =
+    subst (λ (xs : List (List ℕ)). damaged o.secret o.replica.place (managed_of o.replica) xs ≡ Some entry) (take_next all i item bytes within at same)
     (after_damaged m o (take i all) bytes r entry is damage) in
-    subst (λ (xs : List (List ℕ)). damaged o.secret o.replica.place (present o.replica.views) xs ≡ Some entry) (take_drop all (i + 1))
-    (damaged_more o.secret o.replica.place (present o.replica.views) [] (take (i + 1) all) (drop (i + 1) all) entry front)
+    subst (λ (xs : List (List ℕ)). damaged o.secret o.replica.place (managed_of o.replica) xs ≡ Some entry) (take_drop all (i + 1))
+    (damaged_more o.secret o.replica.place (managed_of o.replica) [] (take (i + 1) all) (drop (i + 1) all) entry front)
 
 -- what `?` hands on is the fault that it was given
 pub same_fault : {T U F : Type 0} (r : Result T F) (s : Result U F) (given fault : F) → r ≡ Err given → IsErrAnd s (λ x. x ≡ given) → s ≡ Err fault → r ≡ Err fault
@@ -175,12 +176,12 @@ some_parts m view given held is some = subst (λ (s : Option (List ℕ)). is_som
 pub read_parts : {S : Type 0} (m : Meaning S) (o : Outset S) (read all : List (List ℕ)) (r : Reopening S) → read ≡ all → IsAfter m o read r → IsAfter m o all r
 read_parts m o read all r is after = subst (λ (xs : List (List ℕ)). IsAfter m o xs r) is after
 
-pub fault_parts : {S : Type 0} (o : Outset S) (read all : List (List ℕ)) (entry : ℕ) → read ≡ all → damaged o.secret o.replica.place (present o.replica.views) read ≡ Some entry
-    → damaged o.secret o.replica.place (present o.replica.views) all ≡ Some entry
-fault_parts o read all entry is damage = subst (λ (xs : List (List ℕ)). damaged o.secret o.replica.place (present o.replica.views) xs ≡ Some entry) is damage
+pub fault_parts : {S : Type 0} (o : Outset S) (read all : List (List ℕ)) (entry : ℕ) → read ≡ all → damaged o.secret o.replica.place (managed_of o.replica) read ≡ Some entry
+    → damaged o.secret o.replica.place (managed_of o.replica) all ≡ Some entry
+fault_parts o read all entry is damage = subst (λ (xs : List (List ℕ)). damaged o.secret o.replica.place (managed_of o.replica) xs ≡ Some entry) is damage
 
 whole_by : {S : Type 0} (m : Meaning S) (secret : List ℕ) (view : View) (entries : List (List ℕ)) (first : Option (Replica S)) → is_some first ≡ true
-    → damaged secret (or_empty m view first).place (present (or_empty m view first).views) entries ≡ None → damaged_behind secret entries first ≡ None
+    → damaged secret (or_empty m view first).place (managed_of (or_empty m view first)) entries ≡ None → damaged_behind secret entries first ≡ None
 whole_by m secret view entries None some is = absurd (cc)
 whole_by m secret view entries (Some r) some is = is
 
@@ -190,12 +191,12 @@ unfolding damage_of
 whole_parts m secret id view period parts r some is = whole_by m secret view parts.entries (replica_from m view parts.snapshot) some is.has.whole
 
 damage_by : {S : Type 0} (m : Meaning S) (secret : List ℕ) (view : View) (entries : List (List ℕ)) (entry : ℕ) (first : Option (Replica S)) → is_some first ≡ true
-    → damaged secret (or_empty m view first).place (present (or_empty m view first).views) entries ≡ Some entry → damaged_behind secret entries first ≡ Some entry
+    → damaged secret (or_empty m view first).place (managed_of (or_empty m view first)) entries ≡ Some entry → damaged_behind secret entries first ≡ Some entry
 damage_by m secret view entries entry None some is = absurd (cc)
 damage_by m secret view entries entry (Some r) some is = is
 
 pub damaged_parts : {S : Type 0} (m : Meaning S) (secret : List ℕ) (id : ℕ) (view : View) (period : ℕ) (parts : Parts) (entry : ℕ) → is_some (replica_from m view parts.snapshot) ≡ true
-    → damaged secret (outset_from m secret id view period parts.snapshot).replica.place (present (outset_from m secret id view period parts.snapshot).replica.views) parts.entries ≡ Some entry
+    → damaged secret (outset_from m secret id view period parts.snapshot).replica.place (managed_of (outset_from m secret id view period parts.snapshot).replica) parts.entries ≡ Some entry
     → damage_of m secret view parts ≡ Some entry
 unfolding damage_of
 damaged_parts m secret id view period parts entry some is = damage_by m secret view parts.entries entry (replica_from m view parts.snapshot) some is

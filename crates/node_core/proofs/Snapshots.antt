@@ -18,7 +18,7 @@ use Rattle.vote_book.specs.declared.entry.Decision.{Decision}
 use Rattle.vote_book.specs.declared.entry.LogEntry.{LogEntry}
 use Rattle.replica_rules.specs.Pools.{offered, settled}
 use Rattle.replica_rules.specs.Replicas.{is_next, delivered}
-use Rattle.node_rules.specs.Nodes.{Node, regency_of, start_of, recording}
+use Rattle.node_rules.specs.Nodes.{Node, enters, informs, regency_of, start_of, recording}
 use Rattle.node_rules.specs.Arrivals.{why_dropped, noted, kept}
 use Rattle.node_rules.specs.declared.node.Why.{Why}
 use Rattle.smart_messages.specs.Messages.{decoded}
@@ -65,7 +65,8 @@ deliver_front : {S : Type 0} (m : Meaning S) (front : List OwnSnapshot) (n : Nod
 unfolding deliver_batch
 deliver_front m front n None = refl
 deliver_front {S = S} m front n (Some batch) =
-    replying_front front (record n { replica = delivered m n.replica batch; waiting = None; pool = settled (delivered m n.replica batch).table n.pool; impatient = false }) (lines_to_answer m n batch)
+    ap (λ (x : Node S). informs n x)
+    (replying_front front (enters n (record n { replica = delivered m n.replica batch; waiting = None; pool = settled (delivered m n.replica batch).table n.pool; impatient = false })) (lines_to_answer m n batch))
 
 delivers_front : {S : Type 0} (m : Meaning S) (front : List OwnSnapshot) (n : Node S) → delivers m (with_front front n) ≡ with_front front (delivers m n)
 unfolding delivers
@@ -110,7 +111,7 @@ deliver_apart m front n Firmed fired = refl
 replica_front : {S : Type 0} (front : List OwnSnapshot) (n : Node S) (f : Fetch) (r : Replica S) → install_replica (with_front front n) f r ≡ with_front front (install_replica n f r)
 unfolding install_replica
 replica_front {S = S} front n f r =
-    let installed : Node S = record (recording n (installed_by f.plan)) { replica = r; pool = settled r.table n.pool; fetch = None } in
+    let installed : Node S = enters n (record (recording n (installed_by f.plan)) { replica = r; pool = settled r.table n.pool; fetch = None }) in
     ap (λ (ss : List OwnSnapshot). record (install_replica n f r) { taken = ss }) (append_assoc front n.taken (taken_over installed f ∷ []))
 
 spoil_front : {S : Type 0} (front : List OwnSnapshot) (n : Node S) (f : Fetch) → spoil (with_front front n) f ≡ with_front front (spoil n f)

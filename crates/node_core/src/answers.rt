@@ -14,8 +14,8 @@ use smart_base::sequence::Sequence;
 use smart_service::service::Service;
 use std::alloc::AllocError;
 
-/// The rule that answers a repeated request: its client is sent the kept reply again. Error: want of
-/// memory.
+/// The rule that answers a repeated request: its client is sent the kept reply again, and behind it the
+/// view in force, if that is not the first. Error: want of memory.
 #[tactic(auto, unfolding(node_rules::specs::Rules::answers_again))]
 fn answers_again<S: Service>(
     node: &mut NodeState<S>,

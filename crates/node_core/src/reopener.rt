@@ -1,9 +1,9 @@
 //! Restarts, from a checkpoint and the entries behind it, part by part.
 ghost use Rattle.std.specs.Prelude.{◌≡◌, [], ℕ, true, false, is_some, option_map, Some, None, Err, IfOk, OnOk, IsErrOf};
 ghost use Rattle.std.specs.Option.{option_copied};
-ghost use Rattle.smart_base.specs.Views.{present};
 ghost use Rattle.snapshot_form.specs.Snapshots.{restored};
 ghost use Rattle.vote_book.specs.Entries.{entry_decoded};
+ghost use Rattle.replica_rules.specs.Replicas.{managed_of};
 ghost use Rattle.node_rules.specs.Reopening.{replica_from, damaged, damage_of, outset_from, reopened_from};
 ghost use Rattle.node_rules.specs.Steps.{Outset};
 ghost use Rattle.node_restart.specs.declared.fault.ReopenFault.TheVariants.{Damaged, NoMemory};
@@ -198,7 +198,7 @@ impl<S: Service> Reopener<S> {
     /// Reads more entries, in order.
     fn read_all(&mut self, entries: &[Bytes]) -> Result<(), ReopenFault>
         ensures read { OnOk result ((o : Outset S) → IsAfter S.meaning o [] self.old → IsAfter S.meaning o entries.now self.new) }
-        ensures cause { (entry : ℕ) → IsErrOf result (Damaged entry) → (o : Outset S) → IsAfter S.meaning o [] self.old → damaged o.secret o.replica.place (present o.replica.views) entries.now ≡ Some entry }
+        ensures cause { (entry : ℕ) → IsErrOf result (Damaged entry) → (o : Outset S) → IsAfter S.meaning o [] self.old → damaged o.secret o.replica.place (managed_of o.replica) entries.now ≡ Some entry }
     {
         for bytes in entries {
             self.entry(bytes.as_slice())?;

@@ -97,15 +97,15 @@ is_next_where seq last new near = eq-eqb seq (last + 1) (omega (arith, leb-false
 abbrev gone_at : {S : Type 0} → Replica S → Request → Bool
 gone_at r q = is_none (kept_reply r.table q.client q.seq)
 
-offered_why : {S : Type 0} (n : Node S) (q : SignedBy Request) → is_member (view_of n) n.id ≡ true → q.signer ≡ q.statement.client → (q.signer == 0) ≡ false
+offered_why : {S : Type 0} (n : Node S) (q : SignedBy Request) → is_member (view_of n) n.id ≡ true → q.signer ≡ q.statement.client
     → why_offered (offer_of n.secret n.pool q (last_seq n.replica.table q.statement.client)) (gone_at n.replica q.statement) ≡ why_ask n q
 unfolding why_ask
-offered_why n q member own known =
+offered_why n q member own =
     let last = last_seq n.replica.table q.statement.client in
     let seq = q.statement.seq in
     same_why (is_verified requests n.secret q) (nat_lt 1024 q.statement.client) (nat_le seq last) (gone_at n.replica q.statement) (nat_lt (last + 1) seq) (has_client n.pool q.statement.client)
     (not_ahead seq last)
-    ∙ rw (member, known, own) refl
+    ∙ rw (member, own) refl
 
 offered_kept : {S : Type 0} (n : Node S) (q : SignedBy Request)
     → record n { pool = pool_after (offer_of n.secret n.pool q (last_seq n.replica.table q.statement.client)) n.pool q }
@@ -119,10 +119,10 @@ offered_kept n q =
 -- why a request is dropped that was offered to a node's pool, and the node behind it
 
 pub why_where : {S : Type 0} (n inside : Node S) (q : SignedBy Request) (asked : Request) (r : Replica S) (secret : List ℕ) (last : ℕ) (gone : Bool) (answer : Offer) (why : Option Why) → inside ≡ n
-    → is_member (view_of n) n.id ≡ true → q.signer ≡ q.statement.client → (q.signer == 0) ≡ false → asked ≡ q.statement → r ≡ inside.replica → secret ≡ inside.secret
+    → is_member (view_of n) n.id ≡ true → q.signer ≡ q.statement.client → asked ≡ q.statement → r ≡ inside.replica → secret ≡ inside.secret
     → last ≡ last_seq r.table asked.client → gone ≡ gone_at n.replica asked → answer ≡ offer_of secret inside.pool q last → why ≡ why_offered answer gone → why ≡ why_ask n q
-why_where n inside q asked r secret last gone answer why same member own known is replica key found kept offer due =
-    rw (due, kept, offer, found, is, replica, key, same) (offered_why n q member own known)
+why_where n inside q asked r secret last gone answer why same member own is replica key found kept offer due =
+    rw (due, kept, offer, found, is, replica, key, same) (offered_why n q member own)
 
 pub kept_where : {S : Type 0} (n inside : Node S) (q : SignedBy Request) (asked : Request) (r : Replica S) (secret : List ℕ) (last : ℕ) (gone : Bool) (answer : Offer) (why : Option Why) (pool : Batch) → inside ≡ n
     → asked ≡ q.statement → r ≡ inside.replica → secret ≡ inside.secret → last ≡ last_seq r.table asked.client → gone ≡ gone_at n.replica asked → answer ≡ offer_of secret inside.pool q last

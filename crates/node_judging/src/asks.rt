@@ -1,5 +1,5 @@
 //! The judging of clients' requests.
-ghost use Rattle.std.specs.Prelude.{◌≡◌, ◌==◌, true, false, is_none, IfOk, OnErr};
+ghost use Rattle.std.specs.Prelude.{◌≡◌, true, is_none, IfOk, OnErr};
 ghost use Rattle.smart_base.specs.Views.{is_member};
 ghost use Rattle.smart_service.specs.Tables.{kept_reply};
 ghost use Rattle.node_rules.specs.Rules.{called_by, answering};
@@ -9,7 +9,6 @@ ghost use Rattle.node_judging.specs.Arriving.{why_offered, kept_unless};
 ghost use Rattle.smart_messages.specs.declared.message.Message.TheVariants as plain;
 
 use node_rules::node::{Asked, Called, Why};
-use node_state::seal::is_verified;
 use node_state::state::NodeState;
 use request_pool::pool::Offer;
 use smart_base::duplicate::Duplicate;
@@ -35,8 +34,7 @@ fn why_offered(offer: Offer, gone: bool) -> Option<Why>
     }
 }
 
-/// Keeps a request that may be executed now, or tells why it is dropped. INTERIM(views): the view
-/// manager is a stranger. Error: want of memory.
+/// Keeps a request that may be executed now, or tells why it is dropped. Error: want of memory.
 #[tactic(auto, unfolding(node_rules::specs::Arrivals::why_ask))]
 pub fn take_request<S: Service>(
     node: &mut NodeState<S>,
@@ -51,15 +49,8 @@ pub fn take_request<S: Service>(
     if !node.view().is_member(node.id()) {
         return Ok(Some(Why::NotMember));
     }
-    if request.signer() != 0 {
-        learn(node, &request)?;
-        return offer(node, request);
-    }
-    if is_verified(node.keys.ring(), &request) {
-        Ok(Some(Why::Stranger))
-    } else {
-        Ok(Some(Why::BadTag))
-    }
+    learn(node, &request)?;
+    offer(node, request)
 }
 
 /// Learns the key of a client that asks, so that its tags cost less from then on. Checks the tag of a
@@ -94,7 +85,6 @@ fn offer<S: Service>(
 ) -> Result<Option<Why>, AllocError>
     requires member { is_member (view_of node.old) node.old.id ≡ true }
     requires client { request.signer ≡ request.statement.client }
-    requires known { (request.signer == 0) ≡ false }
     ensures why { IfOk result (λ why. why ≡ why_ask node.old request) }
     ensures node { IfOk result (λ why. node.new ≡ kept_unless why node.old (plain.Ask request)) }
     ensures err { OnErr result (node.new.entries ≡ node.old.entries) }
@@ -129,7 +119,8 @@ pub fn called_by(message: &Message) -> Called
         | Message::Decision(_)
         | Message::Reply(_)
         | Message::Mark(_)
-        | Message::StatePart(_) => Called::Nobody,
+        | Message::StatePart(_)
+        | Message::ViewTold(_) => Called::Nobody,
     }
 }
 

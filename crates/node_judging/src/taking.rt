@@ -40,5 +40,6 @@ pub fn take<S: Service>(
         Message::StateAsk(ask) => Ok(take_state_ask(node, &ask)),
         Message::StateOffer(offer) => take_offer(node, &offer),
         Message::StatePart(part) => take_part(node, part),
+        Message::ViewTold(info) => Ok(why_unasked(node, &info)),
     }
 }

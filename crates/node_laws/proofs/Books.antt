@@ -27,6 +27,7 @@ use Rattle.agreement_laws.proofs.Growing.{HasReached-more}
 use Rattle.agreement_laws.proofs.Lists.{among_left, each_among, each_end, some_equal}
 use Rattle.smart_base.proofs.SameLists.{and_true}
 use Rattle.smart_base.proofs.ViewFacts.{each-weaken}
+use Rattle.node_laws.proofs.Views.{begun_later}
 
 pub greatest_push : (view : ℕ) (es : List LogEntry) (e : LogEntry) → greatest_regency view (es ++ e ∷ []) ≡ max (greatest_regency view es) (regency_in view e)
 greatest_push view [] e = omega arith
@@ -40,9 +41,9 @@ within_of views place place' before es es' (Wrote w) p more newest is =
     let a = is.place_is in let b = is.regency_is in let r = more w.slot.view newest in record { of_view = is.of_view; place_is = omega (arith, a, p); regency_is = omega (arith, b, r) }
 within_of views place place' before es es' (Accepted x) p more newest is =
     let a = is.place_is in let b = is.regency_is in let r = more x.slot.view newest in record { of_view = is.of_view; place_is = omega (arith, a, p); regency_is = omega (arith, b, r) }
-within_of views place place' before es es' (Promised q) p more newest is = let b = is.most in let r = more q.view newest in record { of_view = is.of_view; some = is.some; most = omega (arith, b, r) }
-within_of views place place' before es es' (Synced s) p more newest is = let b = is.most in let r = more s.view newest in record { of_view = is.of_view; some = is.some; most = omega (arith, b, r) }
-within_of views place place' before es es' (Decided d) p more newest is = let a = is.place_is in record { of_view = is.of_view; place_is = omega (arith, a, p) }
+within_of views place place' before es es' (Promised q) p more newest is = let b = is.most in let r = more q.view newest in record { of_view = is.of_view; begun = begun_later views place place' is.of_view.view p is.begun; some = is.some; most = omega (arith, b, r) }
+within_of views place place' before es es' (Synced s) p more newest is = let b = is.most in let r = more s.view newest in record { of_view = is.of_view; begun = begun_later views place place' is.of_view.view p is.begun; some = is.some; most = omega (arith, b, r) }
+within_of views place place' before es es' (Decided d) p more newest is = let a = is.place_is in record { of_view = is.of_view; place_is = omega (arith, a, p); low = is.low }
 within_of views place place' before es es' (Installed i) p more newest is = is
 within_of views place place' before es es' (Marked m) p more newest is = omega (arith, is, p)
 

@@ -31,16 +31,15 @@ use Rattle.book_laws.proofs.Lists.{among_left, among_right, split_at}
 use Rattle.book_laws.proofs.Places.{begins, both_parts, latest_second}
 use Rattle.book_laws.proofs.Promises.{IsAtLeast, Under, greatest_from, greatest_most}
 use Rattle.node_rules.specs.Nodes.{greatest_regency}
-use Rattle.node_rules.specs.Reopening.{batch_past, damaged, decided_of, entries_in, is_opening, reopened, rests, stopped}
+use Rattle.node_rules.specs.Reopening.{batch_past, decided_of, entries_in, is_opening, reopened, stopped}
 use Rattle.node_rules.specs.Steps.{Outset}
 use Rattle.node_rules.specs.declared.node.OwnSnapshot.{OwnSnapshot}
 use Rattle.node_laws.proofs.Books.{fewer_promise, greatest_append, promise_most, promised_greatest}
 use Rattle.node_laws.proofs.Views.{numbered_has}
-use Rattle.node_laws.proofs.Damage.{back}
 use Rattle.node_laws.proofs.InTurn.{InTurn, TurnAt, all_in_turn, decided_in_turn}
 use Rattle.node_laws.proofs.Reopened.{after_append, count_is, counted_past, in_turn, latest_is, reopened_is}
 use Rattle.node_laws.proofs.Restored.{decided_append, decided_here, decided_last, decided_low, decided_none, front_of}
-use Rattle.node_laws.proofs.Undamaged.{all_rest, read_again}
+use Rattle.node_laws.proofs.Undamaged.{read_again}
 use Rattle.node_laws.specs.Restored.{IsSoundBook}
 use Rattle.node_laws.specs.Restoring.{AreAlong, DecidesInTurn, outset_behind, resumed_node}
 use Rattle.node_laws.specs.Sound.{ArePromisedUpTo, IsBegun, place_if}
@@ -138,7 +137,7 @@ cut_upto place view diary = by (has_cut place diary)
     by true upto = λ p there. parts upto p (subst (λ (es : List LogEntry). Among (Promised p) es) (sym (both_parts place diary)) there)
     by false upto = upto
 
--- ---- a cut is not damaged
+-- ---- a cut is read again
 
 pub cut_each : (P : LogEntry → Type 0) (place : ℕ) (diary : List LogEntry) → Each P diary → Each P (cut_at place diary)
 cut_each P place diary each = each_from P (cut_at place diary) (λ e there. each_among P diary e each (cut_among place diary e there))
@@ -169,13 +168,6 @@ pub begun_cut : (place : ℕ) (entries : List LogEntry) → (entries ≡ []) ⊎
 begun_cut place [] begun = inl (none_of_none (has_cut place []) place)
 begun_cut place (e ∷ es) (inl none) = absurd (cc)
 begun_cut place (e ∷ es) (inr begun) = inr (first_begun place e es begun)
-
-pub undamaged_cut : (secret : List ℕ) (stated : List Statement) (view : View) (place : ℕ) (entries : List LogEntry) → IsSoundBook secret stated (view ∷ []) entries → InstallUpTo place entries
-    → Each FitsEntry entries → damaged secret place view (map entry_text (cut_at place entries)) ≡ None
-undamaged_cut secret stated view place entries book upto fit =
-    back secret place view (cut_at place entries) (cut_each FitsEntry place entries fit) (begun_cut place entries book.begun)
-    (cut_lawful place (length (cut_at place entries)) entries book.lawful book.tidy upto)
-    (cut_each (λ e. rests secret view e ≡ true) place entries (all_rest secret stated view [] entries book))
 
 pub read_cut : (place : ℕ) (entries : List LogEntry) → Each FitsEntry entries → entries_in (map entry_text (cut_at place entries)) ≡ cut_at place entries
 read_cut place entries fit = read_again (cut_at place entries) (cut_each FitsEntry place entries fit)

@@ -1,6 +1,6 @@
 -- A node that decides stays sound.
-use Rattle.std.proofs.Common.{List, None, Option, Some, ap, arith, nat_le, nat_lt, refl, subst, suc, sym, true, zero, ℕ, ⊎_elim, ◌≡◌, ◌==◌, ◌&&◌, ◌∙◌, ◌≤◌, ◌+◌, ◌++◌, ◌∷◌, [], inl, inr, ◌⊎◌}
-use Rattle.std.proofs.lemmas.Bool.{eqb-true}
+use Rattle.std.proofs.Common.{List, None, Option, Some, ap, arith, nat_le, nat_lt, refl, subst, suc, sym, true, zero, ℕ, ⊎_elim, ◌≡◌, ◌==◌, ◌&&◌, ◌∙◌, ◌≤◌, ◌<◌, ◌+◌, ◌++◌, ◌∷◌, [], inl, inr, ◌⊎◌}
+use Rattle.std.proofs.lemmas.Bool.{eqb-true, ltb-true}
 use Rattle.std.specs.List.{filter_map}
 use Rattle.std.specs.Prelude.{is_none, option_map, ◌^◌}
 use Rattle.certificates.specs.Certificates.{accept_of}
@@ -144,20 +144,22 @@ pub record FromVotes {S : Type 0} (n : Node S) (d : Decision) : Type 0 where
 -- a decision of the next place that is due
 pub record IsDue {S : Type 0} (n : Node S) (d : Decision) : Type 0 where
   pub free : is_none n.waiting ≡ true
+  pub room : next_place n < 2 ^ 63
   pub place_is : d.slot.place ≡ next_place n
   pub how : FromShown n d ⊎ FromVotes n d
 
-shown_due : {S : Type 0} (n : Node S) (d : Decision) (o : Option ProvenBatch) → is_none n.waiting ≡ true → shown_next n ≡ o → option_map (decision_shown n) o ≡ Some d → IsDue n d
-shown_due n d None free at is = absurd (cc)
-shown_due n d (Some x) free at is =
+shown_due : {S : Type 0} (n : Node S) (d : Decision) (o : Option ProvenBatch) → is_none n.waiting ≡ true → next_place n < 2 ^ 63 → shown_next n ≡ o → option_map (decision_shown n) o ≡ Some d → IsDue n d
+shown_due n d None free room at is = absurd (cc)
+shown_due n d (Some x) free room at is =
     let f = found (λ (y : ProvenBatch). y.place == next_place n) n.decisions x at in
     let same : d ≡ decision_shown n x = sym (some_equal (decision_shown n x) d is) in
     let place : x.place ≡ next_place n = eqb-true x.place (next_place n) f.passes in
-    record { free = free; place_is = ap (λ (y : Decision). y.slot.place) same ∙ place; how = inl (record { shown = x; there = f.there; place_is = place; decision_is = same }) }
+    record { free = free; room = room; place_is = ap (λ (y : Decision). y.slot.place) same ∙ place; how = inl (record { shown = x; there = f.there; place_is = place; decision_is = same }) }
 
-votes_due : {S : Type 0} (n : Node S) (d : Decision) (regency : ℕ) → is_none n.waiting ≡ true → regency ≤ regency_of n + 1 → Decides n regency d → IsDue n d
-votes_due n d regency free most decides = record {
+votes_due : {S : Type 0} (n : Node S) (d : Decision) (regency : ℕ) → is_none n.waiting ≡ true → next_place n < 2 ^ 63 → regency ≤ regency_of n + 1 → Decides n regency d → IsDue n d
+votes_due n d regency free room most decides = record {
   free = free;
+  room = room;
   place_is = ap (λ (y : Decision). y.slot.place) decides.decision_is;
   how = inr (record { regency = regency; most = most; decides = decides });
 }
@@ -168,14 +170,16 @@ due_is n d is =
     let others = option_map (decision_shown n) (shown_next n) in
     let votes = or_else (decision_in n (regency_of n)) (decision_ahead n) in
     let parts = guard (is_free n) (or_else others votes) d is in
-    let free = (and_true (is_none n.waiting) (nat_lt (next_place n) (2 ^ 63)) parts.0).0 in
+    let tests = and_true (is_none n.waiting) (nat_lt (next_place n) (2 ^ 63)) parts.0 in
+    let free = tests.0 in
+    let room = ltb-true (next_place n) (2 ^ 63) tests.1 in
     ⊎_elim
-    (λ (one : others ≡ Some d). shown_due n d (shown_next n) free refl one)
+    (λ (one : others ≡ Some d). shown_due n d (shown_next n) free room refl one)
     (λ (own : votes ≡ Some d). ⊎_elim
-    (λ (here : decision_in n (regency_of n) ≡ Some d). votes_due n d (regency_of n) free (omega arith) (decides_in n (regency_of n) d here))
+    (λ (here : decision_in n (regency_of n) ≡ Some d). votes_due n d (regency_of n) free room (omega arith) (decides_in n (regency_of n) d here))
     (λ (ahead : decision_ahead n ≡ Some d).
     let next = guard (nat_lt (regency_of n + 1) (2 ^ 32)) (decision_in n (regency_of n + 1)) d ahead in
-    votes_due n d (regency_of n + 1) free (omega arith) (decides_in n (regency_of n + 1) d next.1))
+    votes_due n d (regency_of n + 1) free room (omega arith) (decides_in n (regency_of n + 1) d next.1))
     (else_some (decision_in n (regency_of n)) (decision_ahead n) d own))
     (else_some others votes d parts.1)
 
@@ -192,16 +196,16 @@ next_if k = place_of_some (k + 1) (omega arith)
 it_is : {S : Type 0} (n : Node S) (regency : ℕ) (x : Named) → Decision
 it_is n regency x = record { slot = slot_in n regency; batch = x.batch; accepts = certificate_votes n.arrivals (view_of n) kinds.Accept (slot_in n regency) x.digest }
 
-may_decide : {S : Type 0} (stated : List Statement) (view : View) (n : Node S) (regency : ℕ) (x : Named) → IsSound stated view n → is_none n.waiting ≡ true
+may_decide : {S : Type 0} (stated : List Statement) (view : View) (n : Node S) (regency : ℕ) (x : Named) → IsSound stated view n → is_none n.waiting ≡ true → next_place n < 2 ^ 63
     → IsNamed n.secret stated (next_place n) x → has_quorum n.arrivals (view_of n) kinds.Accept (slot_in n regency) x.digest ≡ true
     → MayPush stated n (Decided (it_is n regency x))
 unfolding it_is
-may_decide stated view n regency x is free named enough =
+may_decide stated view n regency x is free room named enough =
     let same : digest_of x.batch ≡ x.digest = (may_stand n.secret (next_place n) x.digest x.batch named.may).named in
     record {
       admits = subst (λ (o : Option ℕ). Follows n.opening o (next_place n)) (sym (made_latest stated view n is free)) (follows_next n.opening n.replica.place);
       tidy = tt;
-      within = record { of_view = number_next stated view n is; place_is = omega arith };
+      within = record { of_view = number_next stated view n is; place_is = omega arith; low = room };
       newest = tt;
       backed = λ v there at. subst
           (λ (d : List ℕ). IsDrawn n.secret v stated (accept_of (slot_of v (next_place n) regency) d) (certificate_votes n.arrivals (view_of n) kinds.Accept (slot_in n regency) x.digest))
@@ -210,9 +214,9 @@ may_decide stated view n regency x is free named enough =
     }
 
 -- what others showed may be decided
-may_shown : {S : Type 0} (stated : List Statement) (view : View) (n : Node S) (x : ProvenBatch) → IsSound stated view n → is_none n.waiting ≡ true → x.place ≡ next_place n
+may_shown : {S : Type 0} (stated : List Statement) (view : View) (n : Node S) (x : ProvenBatch) → IsSound stated view n → is_none n.waiting ≡ true → next_place n < 2 ^ 63 → x.place ≡ next_place n
     → IsStated n.secret stated (changes.Decision x) → IsShownIn n.secret (view_of n) x → MayPush stated n (Decided (decision_shown n x))
-may_shown {S = S} stated view n x is free place was shown =
+may_shown {S = S} stated view n x is free room place was shown =
     let cert = shown.accepts in
     let drawn = first_drawn n.secret stated (view_of n) (accept_of (slot_of (view_of n) x.place (regency_by x.accepts)) (digest_of x.batch)) x.accepts (in_force_viewed stated view n is) cert
     (shown_stated n.secret stated x was cert.0.verified) in
@@ -220,7 +224,7 @@ may_shown {S = S} stated view n x is free place was shown =
       admits = subst (λ (k : ℕ). Follows n.opening (latest_made n.entries) k) (sym place)
           (subst (λ (o : Option ℕ). Follows n.opening o (next_place n)) (sym (made_latest stated view n is free)) (follows_next n.opening n.replica.place));
       tidy = tt;
-      within = record { of_view = subst (λ (k : ℕ). IsIn n.replica.views k (view_of n).number) (sym place) (number_next stated view n is); place_is = omega (arith, place) };
+      within = record { of_view = subst (λ (k : ℕ). IsIn n.replica.views k (view_of n).number) (sym place) (number_next stated view n is); place_is = omega (arith, place); low = omega (arith, place, room) };
       newest = tt;
       backed = λ v there at. in_force_of stated view n is
           (λ (u : View). IsDrawn n.secret u stated (accept_of (slot_of u x.place (regency_by x.accepts)) (digest_of x.batch)) (first_votes (view_of n) x.accepts)) v there at drawn;
@@ -238,34 +242,34 @@ decides_makes stated view n d is free at =
       waiting = record { decision = d; there = among_last (Decided d) n.entries; place_is = at; batch_is = refl };
     }
 
-decides_votes : {S : Type 0} (stated : List Statement) (view : View) (n : Node S) (d : Decision) → IsSound stated view n → is_none n.waiting ≡ true → FromVotes n d
+decides_votes : {S : Type 0} (stated : List Statement) (view : View) (n : Node S) (d : Decision) → IsSound stated view n → is_none n.waiting ≡ true → next_place n < 2 ^ 63 → FromVotes n d
     → IsSound stated view (record n { entries = n.entries ++ Decided d ∷ []; waiting = Some d.batch })
 unfolding it_is
-decides_votes {S = S} stated view n d is free due =
+decides_votes {S = S} stated view n d is free room due =
     let r = due.regency in
     let x = due.decides.named in
     let it : Decision = it_is n r x in
     let named = each_among (IsNamed n.secret stated (next_place n)) (known (view_of n).number (next_place n) (regency_of n) n.arrivals n.entries) x
     (all_known stated view n (view_of n).number (next_place n) (regency_of n) refl is) due.decides.there in
     let pushed : IsSound stated view (record n { entries = n.entries ++ Decided it ∷ []; waiting = Some it.batch }) =
-    pushes stated view n (Decided it) (Some it.batch) is (may_decide stated view n r x is free named due.decides.accepted)
+    pushes stated view n (Decided it) (Some it.batch) is (may_decide stated view n r x is free room named due.decides.accepted)
     (decides_makes stated view n it is free refl) in
     subst (λ (y : Decision). IsSound stated view (record n { entries = n.entries ++ Decided y ∷ []; waiting = Some y.batch })) (sym due.decides.decision_is) pushed
 
-decides_shown : {S : Type 0} (stated : List Statement) (view : View) (n : Node S) (d : Decision) → IsSound stated view n → is_none n.waiting ≡ true → FromShown n d
+decides_shown : {S : Type 0} (stated : List Statement) (view : View) (n : Node S) (d : Decision) → IsSound stated view n → is_none n.waiting ≡ true → next_place n < 2 ^ 63 → FromShown n d
     → IsSound stated view (record n { entries = n.entries ++ Decided d ∷ []; waiting = Some d.batch })
-decides_shown {S = S} stated view n d is free due =
+decides_shown {S = S} stated view n d is free room due =
     let x = due.shown in
     let it : Decision = decision_shown n x in
     let kept = each_among (DecisionKept n.secret stated (next_place n) (view_of n)) n.decisions x is.decisions due.there in
     let pushed : IsSound stated view (record n { entries = n.entries ++ Decided it ∷ []; waiting = Some it.batch }) =
-    pushes stated view n (Decided it) (Some it.batch) is (may_shown stated view n x is free due.place_is kept.0 (kept.2 due.place_is)) (decides_makes stated view n it is free due.place_is) in
+    pushes stated view n (Decided it) (Some it.batch) is (may_shown stated view n x is free room due.place_is kept.0 (kept.2 due.place_is)) (decides_makes stated view n it is free due.place_is) in
     subst (λ (y : Decision). IsSound stated view (record n { entries = n.entries ++ Decided y ∷ []; waiting = Some y.batch })) (sym due.decision_is) pushed
 
 decides_it : {S : Type 0} (stated : List Statement) (view : View) (n : Node S) (d : Decision) → IsSound stated view n → IsDue n d
     → IsSound stated view (record n { entries = n.entries ++ Decided d ∷ []; waiting = Some d.batch })
 decides_it stated view n d is due =
-    ⊎_elim (λ (one : FromShown n d). decides_shown stated view n d is due.free one) (λ (own : FromVotes n d). decides_votes stated view n d is due.free own) due.how
+    ⊎_elim (λ (one : FromShown n d). decides_shown stated view n d is due.free due.room one) (λ (own : FromVotes n d). decides_votes stated view n d is due.free due.room own) due.how
 
 decides_with : {S : Type 0} (stated : List Statement) (view : View) (n : Node S) (o : Option Decision) → IsSound stated view n → deciding n ≡ o
     → IsSound stated view (decide_batch n o)

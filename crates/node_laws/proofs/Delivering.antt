@@ -1,20 +1,21 @@
 -- A node that delivers a batch and answers stays sound.
-use Rattle.std.proofs.Common.{Bool, List, None, Option, Some, ap, arith, cond, false, inr, nat_lt, refl, subst, sym, true, ℕ, ◌≡◌, [], ◌∷◌, ◌+◌, ◌∙◌, ◌==◌}
+use Rattle.std.proofs.Common.{Bool, List, None, Option, Some, ap, arith, cond, false, inl, inr, length, nat_le, nat_lt, refl, subst, sym, true, ℕ, ◌≡◌, ◌≤◌, ◌<◌, ◌^◌, ◌++◌, [], ◌∷◌, ◌+◌, ◌∙◌, ◌==◌}
 use Rattle.std.specs.Option.{option_to_list}
 use Rattle.std.specs.Prelude.{IfSome, is_some, option_map}
 use Rattle.replica_rules.specs.Pools.{settled}
 use Rattle.replica_rules.specs.Replicas.{at_next, delivered, execute, execute_all, executed_lines, is_next, line_made, line_of, lines_of}
 use Rattle.node_rules.specs.Rules.{reply_of, answer_line, answering, answers_again, deliver_batch, delivers, lines_to_answer, replying}
-use Rattle.replica_rules.specs.Seals.{is_verified, signed}
+use Rattle.replica_rules.specs.Seals.{digest_of, is_alone, is_verified, signed}
 use Rattle.agreement_laws.specs.Diaries.{HasReached}
 use Rattle.agreement_laws.specs.Statements.{Statement}
 use Rattle.node_rules.specs.Arrivals.{is_collect, is_proven}
-use Rattle.node_rules.specs.Nodes.{Node, decided_place, holding, next_place, regency_of, view_of}
+use Rattle.node_rules.specs.Nodes.{Node, decided_place, enters, holding, next_place, regency_of, signs, stays_in_view, telling, view_of, view_told}
 use Rattle.smart_base.specs.Lists.{Each}
-use Rattle.smart_base.specs.Views.{View, is_member}
+use Rattle.smart_base.specs.Views.{View, is_member, is_view}
 use Rattle.smart_statements.specs.Forms.{SignedBy}
 use Rattle.smart_statements.specs.Kinds.{answers, requests}
 use Rattle.smart_statements.specs.Batches.{Batch}
+use Rattle.smart_messages.specs.Regencies.{view_infos}
 use Rattle.smart_messages.specs.declared.message.Message.TheVariants.{Ask}
 use Rattle.smart_statements.specs.declared.statement.Request.{Request}
 use Rattle.smart_service.specs.Services.{Meaning}
@@ -24,16 +25,23 @@ use Rattle.smart_service.specs.declared.table.Execution.{Execution}
 use Rattle.smart_service.specs.declared.table.TableLine.{TableLine}
 use Rattle.vote_book.specs.Books.{last_made}
 use Rattle.vote_book.specs.declared.entry.LogEntry.{LogEntry}
-use Rattle.node_laws.proofs.Books.{all_within_more}
-use Rattle.node_laws.proofs.Nodes.{DecisionKept, Late, Shows, holds}
-use Rattle.node_laws.proofs.Views.{are_more}
+use Rattle.vote_book.specs.declared.entry.LogEntry.TheVariants.{Decided}
+use Rattle.transfer_form.specs.declared.transfer.ProvenBatch.{ProvenBatch}
+use Rattle.node_laws.proofs.Books.{all_within_more, least_decided}
+use Rattle.node_laws.proofs.Growing.{are_grown, sound_grown, with_views}
+use Rattle.node_laws.proofs.MovedViews.{GrownAt, grown-delivered, moved-start}
+use Rattle.node_laws.proofs.Nodes.{DecisionKept, Late, Shows, holds, sound_entered}
+use Rattle.node_laws.proofs.Stated.{may_stand}
+use Rattle.node_laws.proofs.Views.{are_more, in_force_low}
 use Rattle.smart_base.proofs.ViewFacts.{each-weaken}
-use Rattle.node_laws.specs.Sound.{AreAsked, IsSound, IsStated, answer_by, place_if}
+use Rattle.node_laws.specs.Sound.{AreAsked, AreViews, HasBatch, HasDecided, IsSound, IsStated, IsWithin, answer_by, place_if}
+use Rattle.node_rules.specs.declared.node.Target.{Target}
 use Rattle.node_rules.specs.declared.node.Target.TheVariants as targets
 use Rattle.agreement_laws.specs.Statements as says
-use Rattle.agreement_laws.proofs.Lists.{each_append, either}
+use Rattle.agreement_laws.proofs.Lists.{each_among, each_append, either, some_equal}
 use Rattle.regency_sync.proofs.Lists.{each_filter}
-use Rattle.replica_rules.proofs.Places.{place_execute, place_all, views_all}
+use Rattle.replica_rules.proofs.Managed.{AtMostOne, IsBegunAt, delivered_one}
+use Rattle.replica_rules.proofs.Places.{place_delivered, place_execute}
 use Rattle.node_rules.specs.declared.node.Asked.{Asked}
 
 -- ---- executions at places that are reached
@@ -78,11 +86,6 @@ pub replica_is : {S : Type 0} (r : Replica S) (views : List View) (place : ℕ) 
 replica_is {S = S} r views place v p =
     let make : List View → ℕ → Replica S = λ vs k. record { service = r.service; table = r.table; views = vs; place = k } in
     ap (λ vs. make vs place) (sym v) ∙ ap (λ k. make r.views k) (sym p)
-
-pub delivered_is : {S : Type 0} (m : Meaning S) (r : Replica S) (batch : Batch)
-    → record { service = (delivered m r batch).service; table = (delivered m r batch).table; views = r.views; place = r.place + 1 } ≡ delivered m r batch
-unfolding delivered
-delivered_is m r batch = replica_is (execute_all m (at_next r) 0 batch) r.views (r.place + 1) (views_all m (at_next r) 0 batch) (place_all m (at_next r) 0 batch)
 
 pub delivered_table : {S : Type 0} (m : Meaning S) (r : Replica S) (es : List LogEntry) (batch : Batch) → HasReached es (r.place + 1) → Each (IsReached es) (kept_in r.table)
     → Each (IsReached es) (kept_in (delivered m r batch).table)
@@ -155,24 +158,107 @@ sound_replying stated view n [] is all = is
 sound_replying stated view n (line ∷ lines) is all =
     sound_replying stated view (holding n (targets.Client line.client) (reply_of n.secret n.id line)) lines (sound_reply stated view n line is all.0) all.1
 
+-- ---- the view in force is told
+
+-- it is shown by a book that has reached the place before it
+sound_telling : {S : Type 0} (stated : List Statement) (view : View) (n : Node S) (known : Bool) (to : Target) → IsSound stated view n
+    → (known ≡ false → (view_of n).start ≤ last_made n.entries + 1) → IsSound stated view (telling known to n)
+sound_telling stated view n true to is reached = is
+sound_telling stated view n false to is reached =
+    let says_it = says.Informed (signs n view_infos (record { view = view_of n })) in
+    holds stated view n to (view_told n) is
+    (each_filter (Shows stated n) (says.verifies n.secret) (says_it ∷ []) (inr (refl, reached refl), tt))
+    (each_filter (Late stated n) (says.verifies n.secret) (says_it ∷ []) (inr tt, tt))
+
+-- a sound book has reached the place before a view that is not the first
+reached_view : {S : Type 0} (stated : List Statement) (view : View) (n : Node S) → IsSound stated view n → nat_le (length n.replica.views) 1 ≡ false → (view_of n).start ≤ last_made n.entries + 1
+reached_view stated view n is more =
+    let low = in_force_low view n.replica.place n.replica.views is.views more in
+    let last = is.last in
+    let least = least_decided n.waiting n.replica.place in
+    omega (arith, low, last, least)
+
+-- a sound node behind a batch has reached the place before the view that the batch began
+reached_moved : {S : Type 0} (stated : List Statement) (view : View) (n a : Node S) (r : Replica S) → IsSound stated view a → a.replica ≡ r → r.place ≡ next_place n
+    → GrownAt (next_place n) n.replica.views r.views → stays_in_view n a ≡ false → (view_of a).start ≤ last_made a.entries + 1
+reached_moved {S = S} stated view n a r is at placed grown moved =
+    let views : GrownAt (next_place n) n.replica.views a.replica.views = subst (λ (x : Replica S). GrownAt (next_place n) n.replica.views x.views) (sym at) grown in
+    let start = moved-start (next_place n) n.replica.views a.replica.views views moved in
+    let place : a.replica.place ≡ next_place n = ap (λ (x : Replica S). x.place) at ∙ placed in
+    let last = is.last in
+    let least = least_decided a.waiting a.replica.place in
+    omega (arith, start, place, last, least)
+
+-- replies leave the replica
+pub replica-replying : {S : Type 0} (n : Node S) (lines : List Execution) → (replying n lines).replica ≡ n.replica
+replica-replying n [] = refl
+replica-replying n (l ∷ ls) = replica-replying (holding n (targets.Client l.client) (reply_of n.secret n.id l)) ls
+
 -- ---- deliver
+
+-- the batch that waits may stand at the next place, behind which another place comes
+pub waits_alone : {S : Type 0} (stated : List Statement) (view : View) (n : Node S) (batch : Batch) → IsSound stated view n → n.waiting ≡ Some batch → (is_alone batch ≡ true) × (next_place n < 2 ^ 63)
+waits_alone {S = S} stated view n batch is waits = by n.waiting waits is.waiting
+  where
+    by : (o : Option Batch) → o ≡ Some batch → IfSome o (HasDecided n.entries (next_place n)) → (is_alone batch ≡ true) × (next_place n < 2 ^ 63)
+    by None at decided = absurd (cc)
+    by (Some b) at decided =
+        let d = decided.decision in
+        let has = each_among (HasBatch n.secret stated) n.entries (Decided d) is.batches decided.there in
+        let within = each_among (IsWithin n.replica.views (next_place n) n.entries) n.entries (Decided d) is.within decided.there in
+        let same : d.batch ≡ batch = decided.batch_is ∙ some_equal b batch at in (
+          subst (λ (x : Batch). is_alone x ≡ true) same (may_stand n.secret d.slot.place (digest_of d.batch) d.batch has.may).alone,
+          subst (λ (k : ℕ). k < 2 ^ 63) decided.place_is within.low,
+        )
+
+-- The node behind the batch knows the views before it, or one more, which starts behind the batch's place.
+onward_views : {S : Type 0} (stated : List Statement) (view : View) (n : Node S) (batch : Batch) (service : S) (table : List TableLine) (pool : List (SignedBy Request)) (views : List View) → IsSound stated view n
+    → n.waiting ≡ Some batch → Each (IsReached n.entries) (kept_in table) → AreAsked n.secret stated pool → AtMostOne (next_place n) n.replica.views views
+    → IsSound stated view (with_views (onward n service table pool) views)
+unfolding onward with_views
+onward_views {S = S} stated view n batch service table pool views is waits answered asked more = by more
+  where
+    there : IsSound stated view (onward n service table pool)
+    there = sound_onward stated view n batch service table pool is waits answered asked
+
+    by : AtMostOne (next_place n) n.replica.views views → IsSound stated view (with_views (onward n service table pool) views)
+    by (inl same) = subst (λ (vs : List View). IsSound stated view (with_views (onward n service table pool) vs)) (sym same) there
+    by (inr one) =
+        let v : View = one.0 in
+        let begun : IsBegunAt (next_place n) n.replica.views v = one.2 in
+        let numbered = begun.number_is in
+        let start = begun.start_is in
+        let viewed : is_view v ≡ true = begun.valid (waits_alone stated view n batch is waits).1 in
+        let are : AreViews view (next_place n) (n.replica.views ++ v ∷ []) =
+        are_grown view n.replica.place (next_place n) n.replica.views v is.views (omega arith) viewed numbered (omega (arith, start)) (omega (arith, start)) in
+        subst (λ (vs : List View). IsSound stated view (with_views (onward n service table pool) vs)) (sym one.1)
+        (sound_grown stated view (onward n service table pool) (v ∷ []) (next_place n) there are (omega (arith, numbered), tt) (omega (arith, start), tt) (omega arith) is.within
+        (each-weaken (DecisionKept n.secret stated (next_place n) (view_of n)) (λ (d : ProvenBatch). d.place ≤ next_place n) (λ d kept. kept.1) n.decisions is.decisions))
 
 delivers_waiting : {S : Type 0} (m : Meaning S) (stated : List Statement) (view : View) (n : Node S) (batch : Batch) → IsSound stated view n → n.waiting ≡ Some batch
     → IsSound stated view (deliver_batch m n (Some batch))
-unfolding deliver_batch onward
+unfolding deliver_batch onward with_views
 delivers_waiting {S = S} m stated view n batch is waits =
     let reached : HasReached n.entries (next_place n) = reached_next stated view n batch is waits in
     let r : Replica S = delivered m n.replica batch in
     let pool : List (SignedBy Request) = settled r.table n.pool in
     let IsAsked : SignedBy Request → Type 0 = λ q. (is_verified requests n.secret q ≡ true) × IsStated n.secret stated (Ask q) in
-    let there : IsSound stated view (onward n r.service r.table pool) =
-    sound_onward stated view n batch r.service r.table pool is waits (delivered_table m n.replica n.entries batch reached is.table)
-    (each_filter IsAsked (λ q. is_next r.table q.statement) n.pool is.pool) in
-    let next : IsSound stated view (record n { replica = r; waiting = None; pool = pool; impatient = false }) =
-    subst (λ (x : Replica S). IsSound stated view (record n { replica = x; waiting = None; pool = pool; impatient = false })) (delivered_is m n.replica batch) there in
-    sound_replying stated view (record n { replica = r; waiting = None; pool = pool; impatient = false }) (lines_to_answer m n batch) next
+    let alone = (waits_alone stated view n batch is waits).0 in
+    let there : IsSound stated view (with_views (onward n r.service r.table pool) r.views) =
+    onward_views stated view n batch r.service r.table pool r.views is waits (delivered_table m n.replica n.entries batch reached is.table)
+    (each_filter IsAsked (λ q. is_next r.table q.statement) n.pool is.pool) (delivered_one m n.replica batch alone) in
+    let next : Node S = record n { replica = r; waiting = None; pool = pool; impatient = false } in
+    let behind : IsSound stated view next =
+    subst (λ (x : Replica S). IsSound stated view (record n { replica = x; waiting = None; pool = pool; impatient = false }))
+    (replica_is r r.views (n.replica.place + 1) refl (place_delivered m n.replica batch)) there in
+    let sound : IsSound stated view (enters n next) = sound_entered stated view (stays_in_view n next) next behind in
+    let all : Node S = replying (enters n next) (lines_to_answer m n batch) in
+    let answered : IsSound stated view all =
+    sound_replying stated view (enters n next) (lines_to_answer m n batch) sound
     (either (λ (lines : List Execution). Each (IsReached n.entries) lines) (is_member (view_of n) n.id) (executed_lines m n.replica batch) []
-    (delivered_lines m n.replica n.entries batch reached) tt)
+    (delivered_lines m n.replica n.entries batch reached) tt) in
+    sound_telling stated view all (stays_in_view n all) targets.Clients answered
+    (reached_moved stated view n all r answered (replica-replying (enters n next) (lines_to_answer m n batch)) (place_delivered m n.replica batch) (grown-delivered m n.replica batch))
 
 delivers_with : {S : Type 0} (m : Meaning S) (stated : List Statement) (view : View) (n : Node S) (o : Option Batch) → IsSound stated view n → n.waiting ≡ o
     → IsSound stated view (deliver_batch m n o)
@@ -209,7 +295,10 @@ answers_line : {S : Type 0} (stated : List Statement) (view : View) (n : Node S)
     → IsSound stated view (answer_line n o)
 unfolding answer_line
 answers_line stated view n None is has = is
-answers_line stated view n (Some line) is has = sound_reply stated view n line is has
+answers_line {S = S} stated view n (Some line) is has =
+    let x : Node S = holding n (targets.Client line.client) (reply_of n.secret n.id line) in
+    let sound : IsSound stated view x = sound_reply stated view n line is has in
+    sound_telling stated view x (nat_le (length x.replica.views) 1) (targets.Client line.client) sound (reached_view stated view x sound)
 
 pub sound_answers_again : {S : Type 0} (stated : List Statement) (view : View) (n : Node S) (asked : Asked) → IsSound stated view n → IsSound stated view (answers_again n asked)
 unfolding answers_again

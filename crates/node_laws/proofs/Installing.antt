@@ -1,7 +1,7 @@
 -- A node that takes over a replica, plans to, or gives its own to others stays sound.
 use Rattle.std.proofs.Common.{Bool, List, None, Ok, Err, Option, Result, Some, ap, arith, cond, inl, inr, is_none, length, nat_lt, refl, subst, suc, sym, true, false, zero, ℕ, ◌≡◌, ◌≤◌, ◌<◌, ◌∙◌, ◌+◌, ◌++◌, ◌∷◌, [], ◌&&◌, ◌==◌, filter, ◌-◌, drop}
 use Rattle.std.proofs.lemmas.Bool.{eqb-true, ltb-true}
-use Rattle.std.specs.List.{filter_map, flat_map}
+use Rattle.std.specs.List.{filter_map, flat_map, list_all}
 use Rattle.std.specs.Prelude.{IfSome, map, option_map}
 use Rattle.replica_rules.specs.Pools.{settled}
 use Rattle.replica_rules.specs.Replicas.{is_next}
@@ -9,18 +9,20 @@ use Rattle.replica_rules.specs.Seals.{is_verified}
 use Rattle.agreement_laws.specs.Certificates.{IsTaken}
 use Rattle.agreement_laws.specs.Statements.{Statement, statements}
 use Rattle.agreement_laws.specs.Statements as says
-use Rattle.agreement_laws.proofs.Lists.{each_among, each_end, each_from, either, some_equal}
+use Rattle.agreement_laws.proofs.Lists.{each_among, each_append, each_end, each_from, either, some_equal}
 use Rattle.node_rules.specs.Arrivals.{is_collect, is_proven}
 use Rattle.node_rules.specs.Changes.{state_ask}
 use Rattle.node_rules.specs.Marks.{firm_at}
-use Rattle.node_rules.specs.Nodes.{Node, decided_place, holding, holding_all, next_place, regency_of, signs, view_of}
-use Rattle.node_rules.specs.Transfers.{answers_state, decided_at, decides_at, follow_plan, gives_parts, install_by, install_fetch, install_replica, installing, installs, is_of_group, is_other_offer, is_ready, is_shown_place, last_few, made_of, mark_made, marks_past, offer_for, offered_marks, offers_state, part_messages, places_after, planning, plans, ready, same_view, shown_after, shown_as, shown_at, spoil}
+use Rattle.node_rules.specs.Nodes.{Node, decided_place, enters, holding, holding_all, next_place, regency_of, signs, stays_in_view, view_of}
+use Rattle.node_rules.specs.Transfers.{answers_state, decided_at, decides_at, follow_plan, gives_parts, go_on, install_by, install_fetch, install_replica, installing, installs, is_of_group, is_other_offer, is_ready, is_shown_place, last_few, made_of, mark_made, marks_past, offer_for, offered_marks, offers_state, part_messages, places_after, planning, plans, ready, same_view, shown_after, shown_as, shown_at, spoil}
 use Rattle.node_rules.specs.declared.node.OwnSnapshot.{OwnSnapshot}
 use Rattle.node_rules.specs.declared.node.Target.{Target}
 use Rattle.node_rules.specs.declared.node.Target.TheVariants as targets
 use Rattle.smart_base.specs.Lists.{Each, or_else}
-use Rattle.smart_base.specs.Views.{View}
+use Rattle.smart_base.specs.Views.{View, is_view, present}
 use Rattle.smart_base.proofs.SameLists.{and_true, same_list-equal}
+use Rattle.snapshot_form.specs.Replicas.{follow, views_follow}
+use Rattle.transfer_form.specs.declared.transfer.ProvenBatch.{ProvenBatch}
 use Rattle.smart_base.proofs.ViewFacts.{each-weaken}
 use Rattle.smart_base.specs.declared.limits.TheConstants.{MARKS}
 use Rattle.smart_service.specs.Services.{Meaning}
@@ -38,7 +40,7 @@ use Rattle.smart_messages.specs.declared.message.Message.{Message}
 use Rattle.smart_messages.specs.declared.message.Message.TheVariants as changes
 use Rattle.smart_messages.specs.declared.message.Message.TheVariants.{Ask}
 use Rattle.state_transfer.proofs.Certificates.{rests_on_marks}
-use Rattle.state_transfer.specs.Fetches.{are_all_there, finished}
+use Rattle.state_transfer.specs.Fetches.{are_all_there, finished, joined_of}
 use Rattle.state_transfer.specs.Plans.{all_marks, planned}
 use Rattle.state_transfer.specs.Seeds.{seeds}
 use Rattle.state_transfer.specs.declared.choice.NotYet.{NotYet}
@@ -59,14 +61,15 @@ use Rattle.vote_book.specs.declared.entry.LogEntry.{LogEntry}
 use Rattle.vote_book.specs.declared.entry.LogEntry.TheVariants.{Accepted, Decided, Installed, Marked, Opened, Promised, Synced, Wrote}
 use Rattle.node_laws.proofs.Books.{all_within_more, begun_push, held_push, late_push, ranged_push, within_push}
 use Rattle.node_laws.proofs.Delivering.{IsReached, replica_is}
+use Rattle.node_laws.proofs.Growing.{ArePast, StartPast, first_follow, past_first, sound_grown, with_views}
 use Rattle.node_laws.proofs.Lists.{each_filter_map_in}
-use Rattle.node_laws.proofs.Nodes.{DecisionKept, Late, OfferKept, PlanKept, Shows, holds, in_force_there, in_force_viewed, known_of, transfers}
-use Rattle.node_laws.proofs.Planning.{IsTakenFrom, all_each_mark, finished_from, plan_each, restored_low}
+use Rattle.node_laws.proofs.Nodes.{DecisionKept, Late, OfferKept, PlanKept, Shows, holds, in_force_there, in_force_viewed, known_of, sound_entered, transfers}
+use Rattle.node_laws.proofs.Planning.{IsTakenFrom, all_each_mark, finished_from, plan_each, restored_follow, restored_low}
 use Rattle.node_laws.proofs.Stated.{batch_covers, covers, each_verified}
-use Rattle.node_laws.proofs.Views.{are_more, held_among, numbered_is}
+use Rattle.node_laws.proofs.Views.{are_more, held_among, known_upto, numbered_is}
 use Rattle.node_laws.proofs.Votes.{free_place, made_last, place_of_some}
 use Rattle.certificates.specs.Collects.{view_numbered}
-use Rattle.node_laws.specs.Sound.{AreAsked, HasBatch, HasDecided, IsBackedIn, IsHeld, IsKnown, IsPlanned, IsSound, IsStated, IsWithin, place_if}
+use Rattle.node_laws.specs.Sound.{AreAsked, AreViews, HasBatch, HasDecided, IsBackedIn, IsHeld, IsKnown, IsPlanned, IsSound, IsStated, IsWithin, place_if, view_for}
 use Rattle.node_rules.proofs.Options.{none_is}
 use Rattle.regency_sync.proofs.Lists.{each_filter}
 
@@ -110,8 +113,38 @@ view_equal a b is =
     let members : a.members ≡ b.members = same_list-equal (λ x y. x == y) eqb-true a.members b.members third.1 in
     λ i. record { number = number i; start = start i; f = f i; members = members i }
 
-pub views_equal : {S : Type 0} (n : Node S) (r : Replica S) → is_of_group n r ≡ true → r.views ≡ n.replica.views
-views_equal n r is = same_list-equal same_view view_equal r.views n.replica.views is
+-- views that a test finds going on
+pub record GoesOn (place : ℕ) (views more : List View) : Type 0 where
+  pub rest : List View
+  pub is : more ≡ views ++ rest
+  pub valid : Each (λ v. is_view v ≡ true) rest
+  pub late : StartPast place rest
+
+past_each : (place : ℕ) (more : List View) → list_all (λ v. is_view v && nat_lt place v.start) more ≡ true → Each (λ (v : View). (is_view v ≡ true) × (place < v.start)) more
+past_each place [] is = tt
+past_each place (v ∷ vs) is =
+    let parts = and_true (is_view v && nat_lt place v.start) (list_all (λ v. is_view v && nat_lt place v.start) vs) is in
+    let here = and_true (is_view v) (nat_lt place v.start) parts.0 in
+    ((here.0, ltb-true place v.start here.1), past_each place vs parts.1)
+
+goes_on : (place : ℕ) (views more : List View) → go_on place views more ≡ true → GoesOn place views more
+goes_on place [] more is =
+    let each = past_each place more is in
+    record {
+      rest = more;
+      is = refl;
+      valid = each-weaken (λ (v : View). (is_view v ≡ true) × (place < v.start)) (λ v. is_view v ≡ true) (λ v parts. parts.0) more each;
+      late = each-weaken (λ (v : View). (is_view v ≡ true) × (place < v.start)) (λ (v : View). place < v.start) (λ v parts. parts.1) more each;
+    }
+goes_on place (v ∷ vs) [] is = absurd (cc)
+goes_on place (v ∷ vs) (w ∷ ws) is =
+    let parts = and_true (same_view v w) (go_on place vs ws) is in
+    let same : v ≡ w = view_equal v w parts.0 in
+    let rest = goes_on place vs ws parts.1 in
+    record { rest = rest.rest; is = ap (λ (xs : List View). w ∷ xs) rest.is ∙ ap (λ (x : View). x ∷ (vs ++ rest.rest)) (sym same); valid = rest.valid; late = rest.late }
+
+pub group_views : {S : Type 0} (n : Node S) (r : Replica S) → is_of_group n r ≡ true → GoesOn (next_place n) n.replica.views r.views
+group_views n r is = goes_on (next_place n) n.replica.views r.views is
 
 -- ---- install
 
@@ -149,7 +182,8 @@ sound_over {S = S} stated view n i service table pool taken is free later of bac
     let here : decided_place (over n (Installed i) service table i.place pool taken) ≡ i.place = free_place n.waiting i.place none in
     let last : last_made es ≡ i.place = (let pushed = last_push n.entries (Installed i) in omega (arith, pushed, before, later)) in
     let some : 0 < i.place = omega (arith, later) in
-    let within : IsWithin n.replica.views (i.place + 1) es (Installed i) = record { of_view = of; some = some } in
+    let upto : (v : View) → view_for n.replica.views i.place ≡ Some v → i.view ≤ v.number = known_upto view n.replica.place n.replica.views is.views i.view i.place of later in
+    let within : IsWithin n.replica.views (i.place + 1) es (Installed i) = record { of_view = of; upto = upto; some = some } in
     record {
       views = are_more view n.replica.place i.place n.replica.views (omega (arith, later)) is.views;
       begun = begun_push n.entries (Installed i) is.begun;
@@ -162,7 +196,7 @@ sound_over {S = S} stated view n i service table pool taken is free later of bac
       latest = latest_push n.entries (Installed i) ∙ (sym (place_of_some i.place some) ∙ ap place_if (sym here));
       within = within_push n.replica.views (i.place + 1) n.entries (Installed i)
           (all_within_more n.replica.views (next_place n) (i.place + 1) n.entries n.entries n.entries (omega (arith, later)) (λ k. omega arith) is.within) within;
-      ranged = ranged_push n.opening n.replica.views n.entries (Installed i) is.ranged (record { within = record { of_view = of; some = some }; newest = tt });
+      ranged = ranged_push n.opening n.replica.views n.entries (Installed i) is.ranged (record { within = record { of_view = of; upto = upto; some = some }; newest = tt });
       backed = each_end (IsBackedIn n.secret n.replica.views stated) n.entries (Installed i) is.backed backed;
       batches = each_end (HasBatch n.secret stated) n.entries (Installed i) is.batches tt;
       waiting = no_batch n.waiting es (i.place + 1) free;
@@ -181,25 +215,60 @@ sound_over {S = S} stated view n i service table pool taken is free later of bac
       late = late_push n.secret stated n.restored n.entries (Installed i) n.held is.late;
     }
 
-sound_replica : {S : Type 0} (m : Meaning S) (stated : List Statement) (view : View) (n : Node S) (f : Fetch) (r : Replica S) → IsSound stated view n → IsReady n f → IsTakenFrom m f r → r.views ≡ n.replica.views
+-- the views of a replica that was read are such of its place, if they begin with those of a group
+taken_are : (first : View) (place' place : ℕ) (views more : List View) → AreViews first place' views → views_follow place (views ++ more) ≡ true → Each (λ v. is_view v ≡ true) more
+    → AreViews first place (views ++ more)
+taken_are first place' place views more are follows valid =
+    let begins : views ++ more ≡ first ∷ (are.rest ++ more) = ap (λ (vs : List View). vs ++ more) are.begins in
+    record {
+      rest = are.rest ++ more;
+      begins = begins;
+      follows = first_follow place first (are.rest ++ more) (subst (λ (vs : List View). views_follow place vs ≡ true) begins follows);
+      valid = each_append (λ v. is_view v ≡ true) views more are.valid valid;
+    }
+
+-- each further one is of a later number
+pub taken_past : (first : View) (place' place : ℕ) (views more : List View) → AreViews first place' views → AreViews first place (views ++ more) → ArePast (present views).number more
+taken_past first place' place views more are whole =
+    let begins : views ++ more ≡ first ∷ (are.rest ++ more) = ap (λ (vs : List View). vs ++ more) are.begins in
+    let rest : whole.rest ≡ are.rest ++ more = tail_is (sym whole.begins ∙ begins) in
+    subst (λ (vs : List View). ArePast (present vs).number more) (sym are.begins)
+    (past_first place first are.rest more (subst (λ (vs : List View). follow place first.number 0 vs ≡ true) rest whole.follows))
+  where
+    tail_is : {x y : View} {xs ys : List View} → (x ∷ xs) ≡ (y ∷ ys) → xs ≡ ys
+    tail_is same = cc
+
+sound_replica : {S : Type 0} (m : Meaning S) (stated : List Statement) (view : View) (n : Node S) (f : Fetch) (r : Replica S) → IsSound stated view n → IsReady n f → IsTakenFrom m f r → GoesOn (next_place n) n.replica.views r.views
     → IsSound stated view (install_replica n f r)
-unfolding install_replica over
-sound_replica {S = S} m stated view n f r is due from views =
+unfolding install_replica over with_views
+sound_replica {S = S} m stated view n f r is due from on =
     let planned_is = no_place n.secret n.replica.views stated n.fetch f is.fetch due.stands in
     let i : Installation = record { place = f.plan.place; digest = f.plan.digest; view = f.plan.view; marks = f.plan.marks } in
     let pool : List (SignedBy Request) = settled r.table n.pool in
-    let taken : List OwnSnapshot = n.taken ++ record { place = f.plan.place; snapshot = _; needs = length (n.entries ++ Installed i ∷ []) } ∷ [] in
+    let taken : List OwnSnapshot = n.taken ++ record { place = f.plan.place; snapshot = joined_of f; needs = length (n.entries ++ Installed i ∷ []) } ∷ [] in
     let IsAsked : SignedBy Request → Type 0 = λ q. (is_verified requests n.secret q ≡ true) × IsStated n.secret stated (Ask q) in
+    let later = due.later in
     let there : IsSound stated view (over n (Installed i) r.service r.table f.plan.place pool taken) =
     sound_over stated view n i r.service r.table pool taken is due.free due.later planned_is.of_view
     (λ v there of. known_of stated view n is (λ (u : View). IsTaken n.secret u stated i) f.plan.view planned_is.of_view v there of (record { holds = planned_is.certified; drawn = planned_is.drawn }))
     (subst (λ (k : ℕ). Each (λ (line : Execution). line.place ≤ k) (kept_in r.table)) from.place_is (restored_low m _ r from.read))
     (each_filter IsAsked (λ q. is_next r.table q.statement) n.pool is.pool) in
+    let follows : views_follow f.plan.place (n.replica.views ++ on.rest) ≡ true =
+    subst (λ (vs : List View). views_follow f.plan.place vs ≡ true) on.is (subst (λ (k : ℕ). views_follow k r.views ≡ true) from.place_is (restored_follow m _ r from.read)) in
+    let are : AreViews view f.plan.place (n.replica.views ++ on.rest) = taken_are view n.replica.place f.plan.place n.replica.views on.rest is.views follows on.valid in
+    let within : Each (IsWithin n.replica.views (next_place n) (n.entries ++ Installed i ∷ [])) (n.entries ++ Installed i ∷ []) =
+    within_push n.replica.views (next_place n) n.entries (Installed i) is.within
+    (record { of_view = planned_is.of_view; upto = known_upto view n.replica.place n.replica.views is.views f.plan.view f.plan.place planned_is.of_view later; some = omega (arith, later) }) in
+    let grown : IsSound stated view (with_views (over n (Installed i) r.service r.table f.plan.place pool taken) (n.replica.views ++ on.rest)) =
+    sound_grown stated view (over n (Installed i) r.service r.table f.plan.place pool taken) on.rest (next_place n) there are (taken_past view n.replica.place f.plan.place n.replica.views on.rest is.views are) on.late
+    (omega (arith, later)) within
+    (each-weaken (DecisionKept n.secret stated (next_place n) (view_of n)) (λ (d : ProvenBatch). d.place ≤ f.plan.place) (λ d kept. let low = kept.1 in omega (arith, low, later)) n.decisions is.decisions) in
     let next : Node S = record n { entries = n.entries ++ Installed i ∷ []; replica = r; pool = pool; fetch = None; taken = taken } in
     let sound : IsSound stated view next =
     subst (λ (x : Replica S). IsSound stated view (record n { entries = n.entries ++ Installed i ∷ []; replica = x; pool = pool; fetch = None; taken = taken }))
-    (replica_is r n.replica.views f.plan.place views from.place_is) there in
-    holds stated view next targets.View (state_ask next 0) sound tt tt
+    (replica_is r (n.replica.views ++ on.rest) f.plan.place on.is from.place_is) grown in
+    let inside : IsSound stated view (enters n next) = sound_entered stated view (stays_in_view n next) next sound in
+    holds stated view (enters n next) targets.View (state_ask (enters n next) 0) inside tt tt
 
 sound_spoil : {S : Type 0} (stated : List Statement) (view : View) (n : Node S) (f : Fetch) → IsSound stated view n → IsSound stated view (spoil n f)
 unfolding spoil
@@ -211,7 +280,7 @@ sound_install_by : {S : Type 0} (m : Meaning S) (stated : List Statement) (view 
 sound_install_by {S = S} m stated view n f (Ok r) is due at = by (is_of_group n r) refl
   where
     by : (t : Bool) → is_of_group n r ≡ t → IsSound stated view (cond t (install_replica n f r) (spoil n f))
-    by true of = sound_replica m stated view n f r is due (finished_from m f r at) (views_equal n r of)
+    by true of = sound_replica m stated view n f r is due (finished_from m f r at) (group_views n r of)
     by false of = sound_spoil stated view n f is
 sound_install_by m stated view n f (Err why) is due at = sound_spoil stated view n f is
 

@@ -14,6 +14,8 @@ pub mod Promising
 pub mod Leading
 pub mod Marking
 pub mod Proposing
+pub mod Growing
+pub mod MovedViews
 pub mod Delivering
 pub mod Planning
 pub mod Installing
@@ -26,8 +28,10 @@ pub mod Resting
 pub mod InTurn
 pub mod CertifiedBooks
 pub mod Damage
-pub mod OneView
+pub mod ListedViews
 pub mod Undamaged
 pub mod Cuts
 pub mod CutNodes
+pub mod CutRested
+pub mod BookViews
 pub mod CutShown

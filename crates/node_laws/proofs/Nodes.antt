@@ -1,12 +1,12 @@
 -- A node stays sound where it changes in part.
-use Rattle.std.proofs.Common.{Bool, List, None, Option, ap, arith, length, max, subst, sym, take, true, ℕ, ◌≡◌, ◌≤◌, ◌⊎◌, ◌+◌, ◌++◌, ◌∷◌, [], ◌∙◌}
+use Rattle.std.proofs.Common.{Bool, List, None, Option, ap, arith, false, length, max, subst, sym, take, true, ℕ, ◌≡◌, ◌≤◌, ◌⊎◌, ◌+◌, ◌++◌, ◌∷◌, [], ◌∙◌, ◌&&◌}
 use Rattle.std.proofs.lemmas.List.{take_all}
-use Rattle.std.specs.Prelude.{IfSome}
+use Rattle.std.specs.Prelude.{IfSome, if◌then◌else◌}
 use Rattle.replica_rules.specs.Seals.{digest_of, is_verified}
 use Rattle.agreement_laws.specs.Diaries.{HasReached, IsShown}
 use Rattle.agreement_laws.specs.Statements.{Statement, signer_of, statements}
 use Rattle.node_rules.specs.Arrivals.{is_collect, is_proven}
-use Rattle.node_rules.specs.Nodes.{Node, decided_place, holding, next_place, recording, regency_of, view_of}
+use Rattle.node_rules.specs.Nodes.{Node, decided_place, entered, holding, next_place, recording, regency_of, view_of}
 use Rattle.node_rules.specs.declared.node.Held.{Held}
 use Rattle.node_rules.specs.declared.node.Target.{Target}
 use Rattle.smart_service.specs.Tables.{kept_in}
@@ -159,6 +159,25 @@ keeps stated view n pool arrivals ss rs ys behind is asked kept_arrivals kept_st
   held = is.held;
   late = is.late;
 }
+
+-- what stays, where all does or nothing does
+if_stays : {A : Type 0} (P : A → Type 0) (stays : Bool) (xs : List A) → Each P xs → Each P (if stays then xs else [])
+if_stays P true xs all = all
+if_stays P false xs all = tt
+
+-- the node in its view, or in one that has just begun
+pub sound_entered : {S : Type 0} (stated : List Statement) (view : View) (stays : Bool) (n : Node S) → IsSound stated view n → IsSound stated view (entered stays n)
+sound_entered {S = S} stated view stays n is =
+    let kept : Node S = record n {
+      arrivals = if stays then n.arrivals else [];
+      stops = if stays then n.stops else [];
+      reports = if stays then n.reports else [];
+      syncs = if stays then n.syncs else [];
+    } in
+    let sound : IsSound stated view kept =
+    keeps stated view n n.pool kept.arrivals kept.stops kept.reports kept.syncs n.behind is is.pool (if_stays (Arrived n.secret stated (view_of n)) stays n.arrivals is.arrivals)
+    (if_stays (StopKept n.secret stated (view_of n)) stays n.stops is.stops) (if_stays (ReportKept n stated) stays n.reports is.reports) (if_stays (SyncKept n stated) stays n.syncs is.syncs) in
+    aside stated view kept n.firm n.held (if stays then n.proposed else []) (n.stop_made && stays) (n.sync_made && stays) n.impatient n.behind sound sound.held sound.late
 
 -- other decisions that were shown, offers, marks and another plan
 pub transfers : {S : Type 0} (stated : List Statement) (view : View) (n : Node S) (shown : List ProvenBatch) (offered : List StateOffer) (table : List (SignedBy Mark)) (planned : Option Fetch)

@@ -187,3 +187,27 @@ read_low m (Err at) r said = absurd (cc)
 
 pub restored_low : {S : Type 0} (m : Meaning S) (bytes : List ℕ) (r : Replica S) → restored m bytes ≡ Some r → Each (λ (line : Execution). line.place ≤ r.place) (kept_in r.table)
 restored_low m bytes r said = read_low m (read_parts bytes) r said
+
+-- ---- the views of a replica that was read follow each other
+
+tied_follow : (p : Parts) → is_tied p ≡ true → views_follow p.place p.views ≡ true
+unfolding is_tied
+tied_follow p is = (and_true (views_follow p.place p.views) (lines_follow p.place (length p.views) p.lines) is).0
+
+service_follow : {S : Type 0} (p : Parts) (o : Option S) (r : Replica S) → is_tied p ≡ true → option_map (λ (s : S). with_service p s) o ≡ Some r → views_follow r.place r.views ≡ true
+service_follow p None r tied said = absurd (cc)
+service_follow {S = S} p (Some s) r tied said =
+    let same : with_service p s ≡ r = cc in
+    subst (λ (x : Replica S). views_follow x.place x.views ≡ true) same (tied_follow p tied)
+
+parts_follow : {S : Type 0} (m : Meaning S) (p : Parts) (r : Replica S) (t : Bool) → is_tied p ≡ t → cond t (option_map (λ (s : S). with_service p s) (m.restore p.service)) None ≡ Some r
+    → views_follow r.place r.views ≡ true
+parts_follow m p r true tied said = service_follow p (m.restore p.service) r tied said
+parts_follow m p r false tied said = absurd (cc)
+
+read_follow : {S : Type 0} (m : Meaning S) (read : Result Parts ℕ) (r : Replica S) → replica_read m read ≡ Some r → views_follow r.place r.views ≡ true
+read_follow m (Ok p) r said = parts_follow m p r (is_tied p) refl said
+read_follow m (Err at) r said = absurd (cc)
+
+pub restored_follow : {S : Type 0} (m : Meaning S) (bytes : List ℕ) (r : Replica S) → restored m bytes ≡ Some r → views_follow r.place r.views ≡ true
+restored_follow m bytes r said = read_follow m (read_parts bytes) r said

@@ -11,6 +11,7 @@ use Rattle.vote_book.specs.declared.entry.Promise.{Promise}
 use Rattle.vote_book.specs.declared.entry.Start.{Start}
 use Rattle.node_laws.proofs.Books.{greatest_push, promise_in, promised_greatest, promised_push}
 use Rattle.node_laws.proofs.Nodes.{in_force_of, number_known, number_newest, records}
+use Rattle.node_laws.proofs.Views.{known_begun}
 use Rattle.node_laws.proofs.Votes.{no_promise}
 use Rattle.node_laws.specs.Sound.{ArePromisedUpTo, IsKnown, IsSound}
 
@@ -20,10 +21,11 @@ pub records_promise : {S : Type 0} (stated : List Statement) (view : View) (n : 
 records_promise stated view n p is at later =
     let is_in : regency_in p.view (Promised p) ≡ p.regency = promise_in p.view p refl in
     let grown = greatest_push p.view n.entries (Promised p) in
+    let known : IsKnown n.replica.views p.view = subst (IsKnown n.replica.views) (sym at) (number_known stated view n is) in
     records stated view n (Promised p) is (record {
       admits = tt;
       tidy = tt;
-      within = record { of_view = subst (IsKnown n.replica.views) (sym at) (number_known stated view n is); some = omega (arith, later); most = omega (arith, is_in, grown) };
+      within = record { of_view = known; begun = known_begun view n.replica.place n.replica.views is.views p.view known; some = omega (arith, later); most = omega (arith, is_in, grown) };
       newest = subst (λ (k : ℕ). ArePromisedUpTo k n.entries) (sym at) (number_newest stated view n is);
       backed = λ v there. tt;
       batch = tt;
@@ -47,6 +49,7 @@ records_start stated view n start is at in_regency some once chosen =
     let newest : ArePromisedUpTo start.view n.entries = subst (λ (k : ℕ). ArePromisedUpTo k n.entries) (sym at) (number_newest stated view n is) in
     let same : greatest_regency start.view n.entries ≡ greatest_regency (view_of n).number n.entries = ap (λ (k : ℕ). greatest_regency k n.entries) at in
     let more = promised_push n.entries (Synced start) start.view in
+    let known : IsKnown n.replica.views start.view = subst (IsKnown n.replica.views) (sym at) (number_known stated view n is) in
     records stated view n (Synced start) is (record {
       admits = tt;
       tidy = record {
@@ -55,7 +58,7 @@ records_start stated view n start is at in_regency some once chosen =
         promises = no_promise n.entries (first_slot start) newest (omega (arith, same, in_regency));
         once = once;
       };
-      within = record { of_view = subst (IsKnown n.replica.views) (sym at) (number_known stated view n is); some = some; most = omega (arith, same, in_regency, more) };
+      within = record { of_view = known; begun = known_begun view n.replica.place n.replica.views is.views start.view known; some = some; most = omega (arith, same, in_regency, more) };
       newest = newest;
       backed = λ v there of above. in_force_of stated view n is (λ (u : View). IsChosen n.secret u stated start) v there (sym at ∙ of) chosen;
       batch = tt;

@@ -1,9 +1,9 @@
 -- What a sound book makes, and what a node is that goes on from entries.
-use Rattle.std.proofs.Common.{append-nil, List, None, Option, Some, ap, arith, inl, length, nat_le, nat_lt, not, refl, subst, suc, sym, true, zero, ℕ, ⊎_elim, ◌≡◌, ◌≤◌, ◌<◌, ◌∙◌, ◌+◌, ◌++◌, ◌∷◌, [], ◌&&◌, ◌||◌, append_assoc}
+use Rattle.std.proofs.Common.{append-nil, List, None, Option, Some, ap, arith, inl, length, nat_le, nat_lt, refl, subst, suc, sym, true, zero, ℕ, ⊎_elim, ◌≡◌, ◌≤◌, ◌<◌, ◌∙◌, ◌+◌, ◌++◌, ◌∷◌, [], ◌&&◌, append_assoc}
 use Rattle.std.proofs.lemmas.Bool.{ltb-true}
-use Rattle.std.specs.List.{list_all, list_any}
+use Rattle.std.specs.List.{list_all}
 use Rattle.replica_rules.specs.Replicas.{after_batches, delivered}
-use Rattle.replica_rules.specs.Seals.{digest_of, fits, is_managers, is_verified, request_fits}
+use Rattle.replica_rules.specs.Seals.{digest_of, fits, is_alone, is_verified, request_fits}
 use Rattle.replica_rules.proofs.Places.{state_place}
 use Rattle.agreement_laws.specs.Statements.{Statement}
 use Rattle.agreement_laws.proofs.Lists.{among_right, each_among}
@@ -49,7 +49,7 @@ some_fits : (secret : List ℕ) (place : ℕ) (batch : Batch) → fits secret ba
 unfolding fits
 some_fits secret place batch is =
     let front = and_true (nat_le 1 (length batch) && nat_le (length batch) 64 && nat_le (length (batch_text batch)) 262144 && list_all (request_fits secret place) batch)
-    (nat_le (length batch) 1 || not (list_any is_managers batch)) is in
+    (is_alone batch) is in
     let all = and_true (nat_le 1 (length batch) && nat_le (length batch) 64 && nat_le (length (batch_text batch)) 262144) (list_all (request_fits secret place) batch) front.0 in
     let sizes = and_true (nat_le 1 (length batch) && nat_le (length batch) 64) (nat_le (length (batch_text batch)) 262144) all.0 in
     some_batch secret place batch (and_true (nat_le 1 (length batch)) (nat_le (length batch) 64) sizes.0).0 all.1
@@ -57,8 +57,7 @@ some_fits secret place batch is =
 pub some_place : (secret : List ℕ) (place : ℕ) (digest : List ℕ) (batch : Batch) → is_batch_for secret place digest batch ≡ true → 0 < place
 unfolding is_batch_for
 some_place secret place digest batch is =
-    let outer = and_true (fits secret batch place && not (list_any is_managers batch)) (same_bytes (digest_of batch) digest) is in
-    some_fits secret place batch (and_true (fits secret batch place) (not (list_any is_managers batch)) outer.0).0
+    some_fits secret place batch (and_true (fits secret batch place) (same_bytes (digest_of batch) digest) is).0
 
 next_of : (k place : ℕ) → Follows 0 (place_if k) place → 0 < place → place ≡ k + 1
 next_of zero place follows some = omega (arith, follows, some)

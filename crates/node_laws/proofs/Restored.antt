@@ -25,7 +25,7 @@ use Rattle.node_laws.specs.Sound.{AreAmong, AreRanged, AreRangedPast, HasBatch, 
 use Rattle.agreement_laws.proofs.Lists.{each_take}
 use Rattle.smart_base.proofs.ViewFacts.{each-weaken}
 
-ranged_first : (views : List View) (opening : ℕ) (entries : List LogEntry) → opening ≡ 0 → AreRangedPast opening views entries → AreRanged views entries
+pub ranged_first : (views : List View) (opening : ℕ) (entries : List LogEntry) → opening ≡ 0 → AreRangedPast opening views entries → AreRanged views entries
 ranged_first views opening entries first ranged before e after split =
     ranged_of views (max opening (last_made before) + 1) (last_made before + 1) before before e (omega (arith, first)) (λ k upto. omega arith) (λ p there. there) (ranged before e after split)
 

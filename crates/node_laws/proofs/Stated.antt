@@ -1,8 +1,9 @@
 -- What stands in messages that have been stated.
-use Rattle.std.proofs.Common.{Bool, List, cond, false, filter, inl, inr, length, nat_le, nat_lt, not, refl, subst, sym, true, ℕ, ⊎_elim, ◌≡◌, ◌∷◌, [], ◌++◌, ◌&&◌, ◌||◌}
-use Rattle.std.specs.List.{flat_map, list_all, list_any}
+use Rattle.std.proofs.Common.{Bool, List, cond, false, filter, inl, inr, length, nat_le, nat_lt, refl, subst, sym, true, ℕ, ⊎_elim, ◌≡◌, ◌∷◌, [], ◌++◌, ◌&&◌}
+use Rattle.std.specs.List.{flat_map, list_all}
 use Rattle.std.specs.Prelude.{map}
-use Rattle.replica_rules.specs.Seals.{digest_of, fits, is_managers, is_verified, request_fits}
+use Rattle.replica_rules.proofs.Managed.{fits_alone}
+use Rattle.replica_rules.specs.Seals.{digest_of, fits, is_alone, is_verified, request_fits}
 use Rattle.agreement_laws.specs.Statements.{Statement, statements}
 use Rattle.node_rules.specs.Arrivals.{is_batch_for}
 use Rattle.smart_base.specs.Lists.{Each, same_bytes}
@@ -95,7 +96,7 @@ fits_tags : (secret : List ℕ) (batch : Batch) (place : ℕ) → fits secret ba
 unfolding fits
 fits_tags secret batch place is =
     let front = and_true (nat_le 1 (length batch) && nat_le (length batch) 64 && nat_le (length (batch_text batch)) 262144 && list_all (request_fits secret place) batch)
-    (nat_le (length batch) 1 || not (list_any is_managers batch)) is in
+    (is_alone batch) is in
     let all = and_true (nat_le 1 (length batch) && nat_le (length batch) 64 && nat_le (length (batch_text batch)) 262144) (list_all (request_fits secret place) batch) front.0 in
     each-weaken (λ q. request_fits secret place q ≡ true) (λ q. is_verified requests secret q ≡ true)
     (λ q ok. (and_true (nat_le q.statement.client 1024 && nat_lt q.statement.after place) (is_verified requests secret q) ok).1)
@@ -103,14 +104,14 @@ fits_tags secret batch place is =
 
 pub record MayStand (secret : List ℕ) (place : ℕ) (digest : List ℕ) (batch : Batch) : Type 0 where
   pub tags : Each (λ q. is_verified requests secret q ≡ true) batch
+  pub alone : is_alone batch ≡ true
   pub named : digest_of batch ≡ digest
 
 pub may_stand : (secret : List ℕ) (place : ℕ) (digest : List ℕ) (batch : Batch) → is_batch_for secret place digest batch ≡ true → MayStand secret place digest batch
 unfolding is_batch_for
 may_stand secret place digest batch is =
-    let outer = and_true (fits secret batch place && not (list_any is_managers batch)) (same_bytes (digest_of batch) digest) is in
-    let inner = and_true (fits secret batch place) (not (list_any is_managers batch)) outer.0 in
-    record { tags = fits_tags secret batch place inner.0; named = same_bytes_is (digest_of batch) digest outer.1 }
+    let outer = and_true (fits secret batch place) (same_bytes (digest_of batch) digest) is in
+    record { tags = fits_tags secret batch place outer.0; alone = fits_alone secret batch place outer.0; named = same_bytes_is (digest_of batch) digest outer.1 }
 
 -- a proposal that was kept names a batch that may stand at its place, each of whose requests has been stated
 pub proposal_asked : (secret : List ℕ) (stated : List Statement) (view : View) (p : Proposed) → Arrived secret stated view (Propose p) → p.head.statement.slot.view ≡ view.number

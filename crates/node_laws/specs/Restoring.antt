@@ -12,11 +12,11 @@ use Rattle.vote_book.specs.declared.entry.LogEntry.{LogEntry}
 use Rattle.vote_book.specs.declared.entry.LogEntry.TheVariants.{Opened, Wrote, Accepted, Promised, Synced, Decided, Installed, Marked}
 use Rattle.smart_statements.specs.Batches.{Batch}
 use Rattle.smart_service.specs.Services.{Meaning}
-use Rattle.replica_rules.specs.Replicas.{batch_at, state}
+use Rattle.replica_rules.specs.Replicas.{batch_at, Managed, state}
 use Rattle.replica_rules.specs.Seals.{digest_of}
 use Rattle.node_rules.specs.Arrivals.{is_batch_for}
 use Rattle.node_rules.specs.Nodes.{Node}
-use Rattle.node_rules.specs.Reopening.{is_opening, damaged, decided_of, entries_in, stopped}
+use Rattle.node_rules.specs.Reopening.{is_opening, damaged, decided_of, entries_in, judging, known_behind, rests, stopped}
 use Rattle.node_rules.specs.Steps.{Outset, outset}
 use Rattle.node_rules.specs.declared.node.OwnSnapshot.{OwnSnapshot}
 
@@ -50,24 +50,40 @@ IsCertified secret view (Decided d) = IsProven secret view d
 IsCertified secret view (Installed i) = IsMarked secret view i
 IsCertified secret view (Marked m) = Unit {0}
 
+-- an entry with its evidence in the view of some known ones that has to judge it
+pub record IsCertifiedIn (secret : List ℕ) (views : List View) (entry : LogEntry) : Type 0 where
+  pub view : View
+  pub judges : judging views entry ≡ Some view
+  pub certified : IsCertified secret view entry
+
+-- entries behind others, each with its evidence by the views that those before it make
+abbrev pub AreCertified : List ℕ → ℕ → Managed → List LogEntry → List LogEntry → Type 0
+AreCertified secret opening g before [] = Unit {0}
+AreCertified secret opening g before (e ∷ es) = IsCertifiedIn secret (known_behind opening g before) e × AreCertified secret opening g (before ++ e ∷ []) es
+
+-- the same by the test
+abbrev pub AreRested : List ℕ → ℕ → Managed → List LogEntry → List LogEntry → Type 0
+AreRested secret opening g before [] = Unit {0}
+AreRested secret opening g before (e ∷ es) = (rests secret (known_behind opening g before) e ≡ true) × AreRested secret opening g (before ++ e ∷ []) es
+
 -- ---- what is damaged
 
 -- The reason for which bytes may not be restored after entries, by what they are read as. They are no entry. Or they are first and no
 -- opening. Or the entry may not stand after those entries, in a book with this opening's place. Or it lacks its evidence.
-abbrev pub IsDamage : List ℕ → ℕ → View → List LogEntry → Result LogEntry ℕ → Type 0
-IsDamage secret opening view before (Err at) = Unit {0}
-IsDamage secret opening view before (Ok e) =
-    ((before ≡ []) × (is_opening e ≡ false)) ⊎ ((Admits opening (length before + 1) before e → ⊥) ⊎ (IsCertified secret view e → ⊥))
+abbrev pub IsDamage : List ℕ → ℕ → Managed → List LogEntry → Result LogEntry ℕ → Type 0
+IsDamage secret opening g before (Err at) = Unit {0}
+IsDamage secret opening g before (Ok e) =
+    ((before ≡ []) × (is_opening e ≡ false)) ⊎ ((Admits opening (length before + 1) before e → ⊥) ⊎ (IsCertifiedIn secret (known_behind opening g before) e → ⊥))
 
 -- the number, from 1, of the first damaged entry among restored bytes; none of those before it is damaged
-pub record IsFirstDamage (secret : List ℕ) (opening : ℕ) (view : View) (restored : List (List ℕ)) (number : ℕ) : Type 0 where
+pub record IsFirstDamage (secret : List ℕ) (opening : ℕ) (g : Managed) (restored : List (List ℕ)) (number : ℕ) : Type 0 where
   pub front : List (List ℕ)
   pub bytes : List ℕ
   pub behind : List (List ℕ)
   pub split : restored ≡ front ++ bytes ∷ behind
   pub numbered : number ≡ length front + 1
-  pub undamaged : damaged secret opening view front ≡ None
-  pub damage : IsDamage secret opening view (entries_in front) (entry_decoded bytes)
+  pub undamaged : damaged secret opening g front ≡ None
+  pub damage : IsDamage secret opening g (entries_in front) (entry_decoded bytes)
 
 -- ---- the order of decisions
 

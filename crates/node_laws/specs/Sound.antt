@@ -1,6 +1,6 @@
 -- What holds of a node whatever came to it, by what has been stated.
-use Rattle.std.specs.Prelude.{◌≡◌, Bool, ℕ, zero, suc, ◌+◌, ◌<◌, ◌≤◌, ◌⊎◌, max, true, List, [], ◌∷◌, ◌++◌, length, take, Option, Some, None, IfSome, Ok}
-use Rattle.smart_base.specs.Lists.{Each, or_else}
+use Rattle.std.specs.Prelude.{◌≡◌, Bool, ℕ, zero, suc, ◌+◌, ◌^◌, ◌<◌, ◌≤◌, ◌⊎◌, max, true, List, [], ◌∷◌, ◌++◌, length, take, Option, Some, None, IfSome, Ok}
+use Rattle.smart_base.specs.Lists.{Each}
 use Rattle.smart_base.specs.Views.{View, is_member, is_view, leader}
 use Rattle.smart_base.specs.declared.party.Party.TheVariants.{Member}
 use Rattle.smart_statements.specs.Forms.{SignedBy}
@@ -23,7 +23,7 @@ use Rattle.smart_statements.specs.declared.entry.NodeEvent.TheVariants.{Arrive, 
 use Rattle.smart_service.specs.Tables.{kept_in}
 use Rattle.smart_service.specs.declared.table.Execution.{Execution}
 use Rattle.certificates.specs.Certificates.{IsDecisionProof, IsMarkCertificate}
-use Rattle.certificates.specs.Collects.{view_holding, view_numbered}
+use Rattle.certificates.specs.Collects.{view_numbered}
 use Rattle.snapshot_form.specs.Replicas.{follow}
 use Rattle.transfer_form.specs.declared.transfer.ProvenBatch.{ProvenBatch}
 use Rattle.state_transfer.specs.declared.choice.Plan.{Plan}
@@ -41,27 +41,23 @@ use Rattle.agreement_laws.specs.Diaries.{IsShown, HasReached}
 use Rattle.agreement_laws.specs.Certificates.{IsBacked}
 use Rattle.node_rules.specs.Nodes.{Node, greatest_regency, next_place, decided_place, ring_of, view_of}
 use Rattle.node_rules.specs.Arrivals.{is_batch_for, is_proven, is_collect, regency_by}
+pub use Rattle.node_rules.specs.Reopening.{view_for}
 use Rattle.node_rules.specs.Reopening.{is_opening}
 use Rattle.node_rules.specs.declared.node.Held.{Held}
 
 -- ---- the views of a replica
 
--- the views of a replica at a place: they begin with the group's first, follow each other, and are valid
+-- the views of a replica at a place: they begin with the group's first, from whatever place that starts, follow each other, and are valid
 pub record AreViews (first : View) (place : ℕ) (views : List View) : Type 0 where
   pub rest : List View
   pub begins : views ≡ first ∷ rest
-  pub follows : follow place first.number first.start rest ≡ true
+  pub follows : follow place first.number 0 rest ≡ true
   pub valid : Each (λ v. is_view v ≡ true) views
 
 -- a number that a view of a list has
 pub record IsKnown (views : List View) (number : ℕ) : Type 0 where
   pub view : View
   pub is : view_numbered views number ≡ Some view
-
--- the view that holds a place: the last that starts there or earlier, or else the first of the list, from whatever place that starts
-abbrev pub view_for : List View → ℕ → Option View
-view_for [] place = None
-view_for (v ∷ views) place = or_else (view_holding views place) (Some v)
 
 -- the number of the view that holds a place
 pub record IsIn (views : List View) (place number : ℕ) : Type 0 where
@@ -149,19 +145,26 @@ pub record IsUpTo (views : List View) (place : ℕ) (entries : List LogEntry) (s
   pub place_is : slot.place ≤ place
   pub regency_is : slot.regency ≤ greatest_regency slot.view entries
 
--- The same of any regency: others may have decided in a later one.
+-- The same of any regency: others may have decided in a later one. A place comes behind it, with which a view may start.
 pub record IsDecidedIn (views : List View) (place : ℕ) (slot : Slot) : Type 0 where
   pub of_view : IsIn views slot.place slot.view
   pub place_is : slot.place ≤ place
+  pub low : slot.place < 2 ^ 63
 
--- an installation of a known view and of some place
+-- an installation of some place, and of a known view that is no later than the one that holds this place
 pub record IsInstalledIn (views : List View) (i : Installation) : Type 0 where
   pub of_view : IsKnown views i.view
+  pub upto : (v : View) → view_for views i.place ≡ Some v → i.view ≤ v.number
   pub some : 0 < i.place
 
--- a regency of a known view, from 1 up to what entries promise in it
-pub record IsLater (views : List View) (entries : List LogEntry) (of r : ℕ) : Type 0 where
+-- a view that starts by a place, or is the first one
+abbrev pub HasBegun : List View → ℕ → View → Type 0
+HasBegun views place v = (v.start ≤ place) ⊎ ((rest : List View) × (views ≡ v ∷ rest))
+
+-- a regency of a known view that has begun by a place, from 1 up to what entries promise in it
+pub record IsLater (views : List View) (place : ℕ) (entries : List LogEntry) (of r : ℕ) : Type 0 where
   pub of_view : IsKnown views of
+  pub begun : HasBegun views place of_view.view
   pub some : 0 < r
   pub most : r ≤ greatest_regency of entries
 
@@ -171,8 +174,8 @@ abbrev pub IsWithin : List View → ℕ → List LogEntry → LogEntry → Type 
 IsWithin views place entries (Opened o) = Unit {0}
 IsWithin views place entries (Wrote w) = IsUpTo views place entries w.slot
 IsWithin views place entries (Accepted a) = IsUpTo views place entries a.slot
-IsWithin views place entries (Promised p) = IsLater views entries p.view p.regency
-IsWithin views place entries (Synced s) = IsLater views entries s.view s.regency
+IsWithin views place entries (Promised p) = IsLater views place entries p.view p.regency
+IsWithin views place entries (Synced s) = IsLater views place entries s.view s.regency
 IsWithin views place entries (Decided d) = IsDecidedIn views place d.slot
 IsWithin views place entries (Installed i) = IsInstalledIn views i
 IsWithin views place entries (Marked m) = m.place < place

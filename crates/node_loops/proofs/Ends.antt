@@ -26,3 +26,22 @@ not_done Over gave is = cc
 not_done (Form frame) gave is = cc
 not_done Failed gave is = cc
 not_done NoMemory gave is = cc
+
+-- ---- ends of loops that are others
+
+pub over_done : Over ≡ Done → ⊥
+over_done is = cc
+
+pub over_failed : Over ≡ Failed → ⊥
+over_failed is = cc
+
+pub done_failed : Done ≡ Failed → ⊥
+done_failed is = cc
+
+-- ---- counts that do not fall
+
+pub at_least : (a : ℕ) → a ≤ a
+at_least a = omega arith
+
+pub up_more : (a b c : ℕ) → a ≤ b → b ≤ c → a ≤ c
+up_more a b c p q = omega (arith, p, q)

@@ -9,9 +9,9 @@ use consensus_instance::instance::Instance;
 use delivery::replica::KeptReplica;
 use node_restart::restart::Restart;
 use node_rules::node::OwnSnapshot;
-use node_state::find::{first_start, greatest_regency, start_at};
 use node_state::seal::{MemberKeys, taught};
 use node_state::state::NodeState;
+use node_state::summary::{Summary, summarize};
 use outbox::outbox::Outbox;
 use regency_sync::synchronizer::Synchronizer;
 use request_pool::pool::RequestPool;
@@ -74,22 +74,14 @@ pub fn begin<S: Service>(
     })
 }
 
-/// A restarted member's instance at the next place, and its part in a leader change, as its book
-/// says.
-#[derive(Drop)]
-struct Summaries {
-    instance: Instance,
-    synchronizer: Synchronizer,
-}
-
 /// What a restarted member keeps beside its book. Error: want of memory.
-fn summarize(
+fn summarize_view(
     alloc: Global,
     id: MemberId,
     view: &View,
     place: Place,
     book: &Book,
-) -> Result<Summaries, AllocError>
+) -> Result<Summary, AllocError>
     requires { last_made book.now.entries ≤ place }
     ensures follows { IfOk result (λ found. Follows id view.now place None book.now.entries found.instance found.synchronizer) }
     ensures arrivals { IfOk result (λ found. found.instance.arrivals ≡ []) }
@@ -99,17 +91,9 @@ fn summarize(
     ensures stop_made { IfOk result (λ found. found.synchronizer.stop_made ≡ false) }
     ensures sync_made { IfOk result (λ found. found.synchronizer.sync_made ≡ false) }
 {
-    let number = view.number();
-    let regency = greatest_regency(number, book.pushed());
-    let start = start_at(book, view, regency);
-    let votes = book.votes_at(number, place.get() + 1, regency);
-    let synced = first_start(book, number, regency).is_some();
     let own = view.duplicate(alloc)?;
     let other = view.duplicate(alloc)?;
-    Ok(Summaries {
-        instance: Instance::resume(alloc, id, own, place, regency, start, votes),
-        synchronizer: Synchronizer::resume(alloc, id, other, regency, synced),
-    })
+    Ok(summarize(alloc, id, own, other, place, book))
 }
 
 /// Opens a book that has no entry. Error: want of memory.
@@ -152,10 +136,10 @@ fn go_on<S: Service>(
     requires { last_made book.entries ≤ replica.replica.place }
     ensures { IfOk result (λ node. node ≡ going_on ring id period (record { past = book.opening; replica = replica.replica; entries = book.entries }) restored checkpoint) }
 {
-    let Summaries {
+    let Summary {
         instance,
         synchronizer,
-    } = summarize(
+    } = summarize_view(
         alloc,
         id,
         replica.replica().views.present(),

@@ -1,3 +1,4 @@
+pub mod Begun
 pub mod Delivering
 pub mod Installing
 pub mod Marking

@@ -1,22 +1,27 @@
 //! The rule that installs.
-ghost use Rattle.std.specs.Prelude.{◌≡◌, ◌<◌, ◌++◌, ◌∷◌, [], true, is_some, is_none, filter, None, IfOk, OnOk, OnErr};
-ghost use Rattle.smart_base.specs.Lists.{same_list, same_bytes};
+ghost use Rattle.std.specs.Prelude.{◌≡◌, ◌&&◌, ◌<◌, ◌++◌, ◌∷◌, [], true, false, is_some, is_none, nat_lt, filter, None, IfOk, OnOk, OnErr};
+ghost use Rattle.std.specs.List.{list_all};
+ghost use Rattle.smart_base.specs.Lists.{same_bytes};
+ghost use Rattle.smart_base.specs.Views.{is_view};
 ghost use Rattle.replica_rules.specs.Pools.{settled};
-ghost use Rattle.node_rules.specs.Nodes.{recording};
+ghost use Rattle.node_rules.specs.Nodes.{recording, entered, enters};
 ghost use Rattle.state_transfer.specs.Fetches.{joined_of, finished};
-ghost use Rattle.node_rules.specs.Transfers.{is_ready, installing, installed_by, install_replica, same_view, is_of_group, install_by, told_install, is_other_offer, install_told, installs};
+ghost use Rattle.node_rules.specs.Transfers.{is_ready, installing, installed_by, install_replica, same_view, go_on, is_of_group, install_by, told_install, is_other_offer, install_told, installs};
+ghost use Rattle.node_replica.specs.Begun.{viewed};
 ghost use Rattle.node_state.specs.Broken.{IsPartly};
 ghost use Rattle.vote_book.specs.declared.entry.LogEntry.TheVariants as entries;
 ghost use Rattle.node_rules.specs.declared.node.Fired.TheVariants as fires;
 
+use crate::views::{number_begun, tell_view};
 use delivery::replica::KeptReplica;
 use node_rules::node::{Fired, OwnSnapshot, Target};
 use node_state::find::{first_start, greatest_regency, start_at};
 use node_state::shown::hold_state_ask;
 use node_state::state::NodeState;
+use node_state::summary::{Summary, summarize};
 use smart_base::duplicate::Duplicate;
 use smart_base::name::MemberId;
-use smart_base::number::Place;
+use smart_base::number::{Place, ViewNo};
 use smart_base::sequence::{Bytes, Sequence};
 use smart_base::view::View;
 use smart_service::replica::Replica;
@@ -59,8 +64,9 @@ fn installation_by(alloc: Global, plan: &Plan) -> Result<Installation, AllocErro
     })
 }
 
-/// Records an installation, and lets the replica take the place of the node's. Error: want of memory.
-fn take_over<S: Service>(
+/// Records an installation, and lets a replica of the view in force take the place of the node's. Error:
+/// want of memory.
+fn take_over_here<S: Service>(
     node: &mut NodeState<S>,
     replica: Replica<S>,
     installation: Installation,
@@ -87,6 +93,60 @@ fn take_over<S: Service>(
     node.replica = KeptReplica::new(replica);
     node.pool.settle(&node.replica.replica().table);
     Ok(())
+}
+
+/// Records an installation, and lets a replica of another view take the place of the node's. What was kept
+/// is of views that are over, and is let go. Error: want of memory.
+#[tactic(auto, using(crate::proofs::Installing::last_anew))]
+fn take_over_anew<S: Service>(
+    node: &mut NodeState<S>,
+    replica: Replica<S>,
+    installation: Installation,
+) -> Result<(), AllocError>
+    requires waits { is_none node.old.waiting ≡ true }
+    requires place { installation.place ≡ replica.place }
+    requires past { node.old.replica.place < replica.place }
+    ensures node { OnOk result (node.new ≡ entered false (record (recording node.old (entries.Installed installation)) { replica = replica; pool = settled replica.table node.old.pool })) }
+    ensures err { OnErr result (node.new.entries ≡ node.old.entries) }
+{
+    let alloc = node.alloc;
+    let view = replica.views.present();
+    let place = replica.place;
+    let own = view.duplicate(alloc)?;
+    let other = view.duplicate(alloc)?;
+    node.book.push(LogEntry::Installed(installation))?;
+    let id = node.keys.member();
+    let Summary {
+        instance,
+        synchronizer,
+    } = summarize(alloc, id, own, other, place, &node.book);
+    node.instance = instance;
+    node.synchronizer = synchronizer;
+    node.proposed = Vec::new(alloc);
+    node.replica = KeptReplica::new(replica);
+    node.pool.settle(&node.replica.replica().table);
+    Ok(())
+}
+
+/// Records an installation, and lets the replica take the place of the node's, which enters its view.
+/// Error: want of memory.
+#[tactic(auto, using(crate::proofs::Installing::entered_here))]
+fn take_over<S: Service>(
+    node: &mut NodeState<S>,
+    replica: Replica<S>,
+    installation: Installation,
+) -> Result<(), AllocError>
+    requires waits { is_none node.old.waiting ≡ true }
+    requires place { installation.place ≡ replica.place }
+    requires past { node.old.replica.place < replica.place }
+    ensures node { OnOk result (node.new ≡ enters node.old (record (recording node.old (entries.Installed installation)) { replica = replica; pool = settled replica.table node.old.pool })) }
+    ensures err { OnErr result (node.new.entries ≡ node.old.entries) }
+{
+    if node.view().number() == replica.views.present().number() {
+        take_over_here(node, replica, installation)
+    } else {
+        take_over_anew(node, replica, installation)
+    }
 }
 
 /// What an installation does: it is recorded, the replica takes the place of the node's, the snapshot is
@@ -141,29 +201,46 @@ fn same_view(a: &View, b: &View) -> bool
         && same_members(a.members(), b.members())
 }
 
-/// Whether views are the same, one by one.
-#[tactic(auto, using(crate::proofs::Installing::alike_on, crate::proofs::Installing::alike_not))]
-fn same_views(a: &[View], b: &[View]) -> bool
-    ensures { result ≡ same_list same_view a.now b.now }
+/// Whether a view is valid and starts past a place.
+fn starts_past(place: u64, view: &View) -> bool
+    ensures { result ≡ (is_view view.now && nat_lt place view.now.start) }
 {
-    if a.len() != b.len() {
+    // That the view is valid is known with its members.
+    let _members = view.members();
+    place < view.start()
+}
+
+fn all_start_past(place: u64, views: &[View]) -> bool
+    ensures { result ≡ list_all (λ v. is_view v && nat_lt place v.start) views.now }
+{
+    views.iter().all(|view| starts_past(place, view))
+}
+
+/// Whether views go on from those that are known: they begin with these, and each further one starts past
+/// a place.
+#[tactic(auto, using(crate::proofs::Installing::goes_short, crate::proofs::Installing::goes_on, crate::proofs::Installing::goes_not, crate::proofs::Installing::goes_end))]
+fn go_on(place: u64, known: &[View], views: &[View]) -> bool
+    ensures { result ≡ go_on place known.now views.now }
+{
+    if views.len() < known.len() {
         return false;
     }
-    for (i, view) in a.iter().enumerate() {
-        if !same_view(view, &b[i]) {
+    for (i, view) in known.iter().enumerate() {
+        if !same_view(view, &views[i]) {
             return false;
         }
     }
-    true
+    all_start_past(place, &views[known.len()..])
 }
 
-/// Whether a replica has the views that the node knows.
+/// Whether a replica's views go on from those that the node knows.
 fn is_of_group<S: Service>(node: &NodeState<S>, replica: &Replica<S>) -> bool
     ensures { result ≡ is_of_group node.now replica.now }
 {
-    same_views(
-        replica.views.as_slice(),
+    go_on(
+        node.place().get() + 1,
         node.replica.replica().views.as_slice(),
+        replica.views.as_slice(),
     )
 }
 
@@ -210,6 +287,19 @@ fn refuse<S: Service>(
     fired.push(Fired::Spoiled)
 }
 
+/// Tells an installation, and the view that it began, if it began one. Error: want of memory.
+fn tell_installed(
+    place: Place,
+    begun: Option<ViewNo>,
+    fired: &mut Sequence<Fired>,
+) -> Result<(), AllocError>
+    ensures { OnOk result (fired.new ≡ fired.old ++ fires.Installed place ∷ viewed begun) }
+{
+    fired.push(Fired::Installed(place))?;
+    tell_view(begun, fired)?;
+    Ok(())
+}
+
 /// Installs what the parts of a plan make, or drops the plan and its offer. Error: want of memory.
 fn finish<S: Service>(
     node: &mut NodeState<S>,
@@ -219,7 +309,7 @@ fn finish<S: Service>(
     requires ready { is_ready node.old fetch.now ≡ true }
     requires fetch { node.old.fetch ≡ None }
     ensures node { OnOk result (node.new ≡ install_by node.old fetch.now (finished S.meaning fetch.now)) }
-    ensures fired { OnOk result (fired.new ≡ fired.old ++ told_install node.old fetch.now (finished S.meaning fetch.now) ∷ []) }
+    ensures fired { OnOk result (fired.new ≡ fired.old ++ told_install node.old fetch.now (finished S.meaning fetch.now)) }
     ensures err { OnErr result (IsPartly node.old.entries node.new.entries (install_by node.old fetch.now (finished S.meaning fetch.now)).entries) }
 {
     let joined = fetch.join(node.alloc)?;
@@ -229,8 +319,9 @@ fn finish<S: Service>(
                 drop(replica);
                 return refuse(node, &fetch.plan, fired);
             }
+            let begun = number_begun(node.replica.replica(), &replica);
             install_replica(node, fetch, joined, replica)?;
-            fired.push(Fired::Installed(fetch.plan.place))?;
+            tell_installed(fetch.plan.place, begun, fired)?;
             Ok(())
         }
         Err(FinishError::Spoiled(_)) => refuse(node, &fetch.plan, fired),

@@ -6,3 +6,4 @@ pub mod delivers;
 pub mod install;
 pub mod marks;
 pub mod replies;
+mod views;

@@ -1,11 +1,12 @@
-//! The replies to executed requests.
+//! The replies to executed requests, and the view in force behind a kept one.
 ghost use Rattle.std.specs.Prelude.{◌≡◌, ◌++◌, IfOk, OnOk, OnErr};
 ghost use Rattle.node_rules.specs.Nodes.{ring_of};
-ghost use Rattle.node_rules.specs.Rules.{reply_of, replying, answer_line, fired_if};
+ghost use Rattle.node_rules.specs.Rules.{reply_of, replies_with, replying, answer_line, telling_view, fired_if};
 ghost use Rattle.node_rules.specs.declared.node.Fired.TheVariants as fires;
 
 use node_rules::node::{Fired, Target};
 use node_state::state::NodeState;
+use node_state::views::hold_view_told;
 use smart_base::sequence::Sequence;
 use smart_messages::message::Message;
 use smart_service::service::Service;
@@ -44,7 +45,24 @@ pub(crate) fn replying<S: Service>(
     Ok(())
 }
 
-/// Puts the reply of an execution into the outbox, if there is one, and tells it. Error: want of memory.
+/// Puts the reply of an execution into the outbox, and the view in force behind it if the node knows
+/// more than the first view: its client may not know it. Error: want of memory.
+fn tell_again<S: Service>(node: &mut NodeState<S>, line: Execution) -> Result<(), AllocError>
+    ensures node { OnOk result (node.new ≡ telling_view (replies_with node.old line) line.client) }
+    ensures err { OnErr result (node.new.entries ≡ node.old.entries) }
+    ensures snapshots { OnErr result (node.new.taken ≡ node.old.taken) }
+{
+    let client = line.client;
+    let reply = reply_of(node, line)?;
+    node.hold(Target::Client(client), reply)?;
+    if 1 < node.replica.replica().views.as_slice().len() {
+        hold_view_told(node, Target::Client(client))?;
+    }
+    Ok(())
+}
+
+/// Puts the reply of an execution into the outbox, if there is one, and tells it. The view in force goes
+/// behind it if the node knows more than the first view. Error: want of memory.
 #[tactic(auto, unfolding(node_rules::specs::Rules::answer_line))]
 pub fn answer_line<S: Service>(
     node: &mut NodeState<S>,
@@ -60,10 +78,7 @@ pub fn answer_line<S: Service>(
         None => Ok(()),
         Some(line) => {
             fired.push(Fired::Answered)?;
-            let client = line.client;
-            let reply = reply_of(node, line)?;
-            node.hold(Target::Client(client), reply)?;
-            Ok(())
+            tell_again(node, line)
         }
     }
 }

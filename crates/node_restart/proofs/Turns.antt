@@ -15,8 +15,8 @@ use Rattle.vote_book.specs.declared.entry.Installation.{Installation}
 use Rattle.vote_book.specs.declared.entry.LogEntry.{LogEntry}
 use Rattle.vote_book.specs.declared.entry.LogEntry.TheVariants.{Opened, Wrote, Accepted, Promised, Synced, Decided, Installed, Marked}
 use Rattle.replica_rules.specs.Replicas.{after_batches, delivered}
-use Rattle.node_rules.specs.Reopening.{opens_first, rests, may_restore}
-use Rattle.node_restart.specs.Restarts.{IsInTurn, place_behind, place_by, replayed, IsReplayed}
+use Rattle.node_rules.specs.Reopening.{opens_first, rests}
+use Rattle.node_restart.specs.Restarts.{IsInTurn, may_take, place_behind, place_by, replayed, IsReplayed}
 
 -- a decision
 
@@ -32,10 +32,10 @@ follows_next past (Some l) at place stands is = by (nat_lt past at) refl
     by true later = let e : at ≡ l + 1 = eqb-true at (l + 1) is in let lt : past < at = ltb-true past at later in omega (arith, stands, e, lt)
     by false later = let e : at ≡ l + 1 = eqb-true at (l + 1) is in let least : at ≤ past = ltb-false past at later in omega (arith, stands, e, least)
 
-decides_next : (secret : List ℕ) (past : ℕ) (view : View) (entries : List LogEntry) (d : Decision) (place : ℕ) → may_restore secret past view entries (Decided d) ≡ true
+decides_next : (secret : List ℕ) (views : List View) (past : ℕ) (entries : List LogEntry) (d : Decision) (place : ℕ) → may_take secret views past entries (Decided d) ≡ true
     → max past (number_or (latest_made entries) 0) ≡ place → IsInTurn past place (Decided d)
-decides_next secret past view entries d place is stands =
-    let e1 = and_true (opens_first entries (Decided d) && follows past (latest_made entries) d.slot.place) (rests secret view (Decided d)) is in
+decides_next secret views past entries d place is stands =
+    let e1 = and_true (opens_first entries (Decided d) && follows past (latest_made entries) d.slot.place) (rests secret views (Decided d)) is in
     let e2 = and_true (opens_first entries (Decided d)) (follows past (latest_made entries) d.slot.place) e1.0 in
     follows_next past (latest_made entries) d.slot.place place stands e2.1
 
@@ -52,24 +52,24 @@ above_none : (o : Option ℕ) (last at past place : ℕ) → max past (number_or
 above_none None last at past place stands ends above most = omega (arith, stands, most)
 above_none (Some l) last at past place stands ends above most = let lt : last < at = ltb-true last at above in omega (arith, ends, most, lt)
 
-installs_here : (secret : List ℕ) (past : ℕ) (view : View) (entries : List LogEntry) (i : Installation) (place : ℕ) → may_restore secret past view entries (Installed i) ≡ true
+installs_here : (secret : List ℕ) (views : List View) (past : ℕ) (entries : List LogEntry) (i : Installation) (place : ℕ) → may_take secret views past entries (Installed i) ≡ true
     → max past (number_or (latest_made entries) 0) ≡ place → max past (last_made entries) ≡ place → max past i.place ≡ place
-installs_here secret past view entries i place is stands ends =
-    let e1 = and_true (opens_first entries (Installed i) && may_install past (length entries + 1) entries i.place) (rests secret view (Installed i)) is in
+installs_here secret views past entries i place is stands ends =
+    let e1 = and_true (opens_first entries (Installed i) && may_install past (length entries + 1) entries i.place) (rests secret views (Installed i)) is in
     let e2 = and_true (opens_first entries (Installed i)) (may_install past (length entries + 1) entries i.place) e1.0 in
     let e3 = and_true (is_above (latest_made entries) (last_made entries) i.place) (not (nat_lt (length entries) (length entries + 1)) || nat_le i.place past) e2.1 in
     above_none (latest_made entries) (last_made entries) i.place past place stands ends e3.0 (nothing_over (length entries) i.place past e3.1)
 
-pub in_turn : (secret : List ℕ) (past : ℕ) (view : View) (entries : List LogEntry) (place : ℕ) (e : LogEntry) → may_restore secret past view entries e ≡ true
+pub in_turn : (secret : List ℕ) (views : List View) (past : ℕ) (entries : List LogEntry) (place : ℕ) (e : LogEntry) → may_take secret views past entries e ≡ true
     → max past (number_or (latest_made entries) 0) ≡ place → max past (last_made entries) ≡ place → IsInTurn past place e
-in_turn secret past view entries place (Opened o) is stands ends = refl
-in_turn secret past view entries place (Wrote w) is stands ends = refl
-in_turn secret past view entries place (Accepted a) is stands ends = refl
-in_turn secret past view entries place (Promised p) is stands ends = refl
-in_turn secret past view entries place (Synced s) is stands ends = refl
-in_turn secret past view entries place (Decided d) is stands ends = decides_next secret past view entries d place is stands
-in_turn secret past view entries place (Installed i) is stands ends = installs_here secret past view entries i place is stands ends
-in_turn secret past view entries place (Marked m) is stands ends = refl
+in_turn secret views past entries place (Opened o) is stands ends = refl
+in_turn secret views past entries place (Wrote w) is stands ends = refl
+in_turn secret views past entries place (Accepted a) is stands ends = refl
+in_turn secret views past entries place (Promised p) is stands ends = refl
+in_turn secret views past entries place (Synced s) is stands ends = refl
+in_turn secret views past entries place (Decided d) is stands ends = decides_next secret views past entries d place is stands
+in_turn secret views past entries place (Installed i) is stands ends = installs_here secret views past entries i place is stands ends
+in_turn secret views past entries place (Marked m) is stands ends = refl
 
 -- a decision past the first replica's place is delivered, another one is not
 

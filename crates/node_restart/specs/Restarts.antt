@@ -1,7 +1,6 @@
 -- What restored entries give a node at a restart, one by one: its replica and its book.
-use Rattle.std.specs.Prelude.{ℕ, ◌≡◌, ◌+◌, max, nat_lt, Bool, true, false, not, ◌&&◌, List, [], ◌∷◌, ◌++◌, Option, Some, None, Result, Ok, Err, if◌then◌else◌}
-use Rattle.std.specs.List.{list_any}
-use Rattle.smart_base.specs.Views.{present}
+use Rattle.std.specs.Prelude.{ℕ, ◌≡◌, ◌+◌, max, nat_lt, Bool, true, false, ◌&&◌, List, [], ◌∷◌, ◌++◌, length, Option, Some, None, Result, Ok, Err, if◌then◌else◌}
+use Rattle.smart_base.specs.Views.{View}
 use Rattle.smart_statements.specs.Batches.{Batch, FitsBatch}
 use Rattle.smart_service.specs.Services.{Meaning}
 use Rattle.smart_service.specs.declared.replica.Replica.{Replica}
@@ -9,14 +8,15 @@ use Rattle.vote_book.specs.Books.{Book, number_or, place_made, latest_made, last
 use Rattle.vote_book.specs.declared.entry.Accept.{Accept}
 use Rattle.vote_book.specs.declared.entry.LogEntry.{LogEntry}
 use Rattle.vote_book.specs.declared.entry.LogEntry.TheVariants.{Opened, Wrote, Accepted, Promised, Synced, Decided, Installed, Marked}
-use Rattle.replica_rules.specs.Replicas.{after_batches}
-use Rattle.replica_rules.specs.Seals.{digest_of, is_managers, fits}
+use Rattle.vote_book.specs.Admission.{admits}
+use Rattle.replica_rules.specs.Replicas.{after_batches, managed_of}
+use Rattle.replica_rules.specs.Seals.{digest_of, fits}
 use Rattle.node_rules.specs.Arrivals.{is_batch_for}
-use Rattle.node_rules.specs.Reopening.{decided_of, may_restore, damaged, entries_in}
+use Rattle.node_rules.specs.Reopening.{decided_of, opens_first, rests, damaged, entries_in}
 
 -- the digest of a batch, if the batch may stand at a place
 abbrev pub named_for : List ℕ → ℕ → Batch → Option (List ℕ)
-named_for secret place batch = if fits secret batch place && not (list_any is_managers batch) then Some (digest_of batch) else None
+named_for secret place batch = if fits secret batch place then Some (digest_of batch) else None
 
 -- The replica after a restart has read one more entry, by the place of the replica with which it began. A batch that is decided past that place is
 -- delivered.
@@ -40,10 +40,14 @@ begun r = record { past = r.place; replica = r; entries = [] }
 abbrev pub took : {S : Type 0} → Meaning S → Restart S → LogEntry → Restart S
 took m r e = record { past = r.past; replica = replayed m r.past r.replica e; entries = r.entries ++ e ∷ [] }
 
--- what a restart gives back with one more entry; none if no entry was read, or it may not be restored there
+-- an entry that may be taken back after others, by the views that the replica knows then
+abbrev pub may_take : List ℕ → List View → ℕ → List LogEntry → LogEntry → Bool
+may_take secret views past entries e = opens_first entries e && admits past (length entries + 1) entries e && rests secret views e
+
+-- what a restart gives back with one more entry; none if no entry was read, or it may not be taken back there
 abbrev pub taken : {S : Type 0} → Meaning S → List ℕ → Restart S → Result LogEntry ℕ → Option (Restart S)
 taken m secret r (Err at) = None
-taken m secret r (Ok e) = if may_restore secret r.past (present r.replica.views) r.entries e then Some (took m r e) else None
+taken m secret r (Ok e) = if may_take secret r.replica.views r.past r.entries e then Some (took m r e) else None
 
 -- ---- the accepts among what is taken back
 
@@ -60,10 +64,9 @@ AreSound secret entries = (a : Accept) → Among (Accepted a) entries → IsSoun
 -- a restart from a replica, once it has read these bytes: none is damaged, and it gives back what they are
 pub record HasRead {S : Type 0} (m : Meaning S) (secret : List ℕ) (first : Replica S) (read : List (List ℕ)) (r : Restart S) : Type 0 where
   pub past : r.past ≡ first.place
-  pub whole : damaged secret first.place (present first.views) read ≡ None
+  pub whole : damaged secret first.place (managed_of first) read ≡ None
   pub entries : r.entries ≡ entries_in read
   pub replica : r.replica ≡ all_replayed m first.place first r.entries
-  pub views : present r.replica.views ≡ present first.views
 
 -- ---- where the replica stands
 

@@ -66,14 +66,6 @@ fn fits(ring: &Ring, batch: &[Signed<Request>], bytes: usize, place: u64) -> boo
         && (batch.len() <= 1 || !has_managers(batch))
 }
 
-/// Whether a batch of so many bytes may stand at a place, and has no request of the view manager.
-fn may_stand(ring: &Ring, batch: &[Signed<Request>], bytes: usize, place: u64) -> bool
-    requires { bytes ≡ length (batch_text batch.now) }
-    ensures { result ≡ (fits ring.now batch.now place && not (list_any is_managers batch.now)) }
-{
-    fits(ring, batch, bytes, place) && !has_managers(batch)
-}
-
 /// Whether a batch may stand at a place, and has a digest. Error: want of memory.
 #[tactic(auto, unfolding(replica_rules::specs::Seals::digest_of, node_rules::specs::Arrivals::is_batch_for))]
 pub fn is_batch_for(
@@ -86,7 +78,7 @@ pub fn is_batch_for(
     ensures { IfOk result (λ valid. valid ≡ is_batch_for ring.now place digest.now batch.now) }
 {
     let text = batch.text(alloc)?;
-    let stands = may_stand(ring, batch.as_slice(), text.len(), place);
+    let stands = fits(ring, batch.as_slice(), text.len(), place);
     let named = Sha::digest(text.as_slice());
     Ok(stands && same_bytes(named.as_slice(), digest.as_slice()))
 }
@@ -102,7 +94,7 @@ pub fn named_for(
     ensures { IfOk result (λ named. named ≡ named_for ring.now place batch.now) }
 {
     let text = batch.text(alloc)?;
-    if !may_stand(ring, batch.as_slice(), text.len(), place) {
+    if !fits(ring, batch.as_slice(), text.len(), place) {
         return Ok(None);
     }
     Ok(Some(Sha::digest(text.as_slice())))

@@ -1,13 +1,12 @@
 //! The replica and the book that restored entries give back.
 ghost use Rattle.std.specs.Prelude.{◌≡◌, ◌+◌, ◌<◌, ◌^◌, ℕ, length, max, Some, None, false, IfOk, OnOk, IsErrOf};
 ghost use Rattle.std.specs.Result.{is_err};
-ghost use Rattle.smart_base.specs.Views.{present};
 ghost use Rattle.vote_book.specs.Admission.{admits};
 ghost use Rattle.vote_book.specs.Books.{last_made};
 ghost use Rattle.vote_book.specs.Entries.{FitsEntry, entry_decoded};
 ghost use Rattle.vote_book.specs.declared.entry.LogEntry.TheVariants.{Decided};
-ghost use Rattle.node_rules.specs.Reopening.{opens_first, may_restore};
-ghost use Rattle.node_restart.specs.Restarts.{replayed, begun, took, taken, AreSound, IsInTurn, place_behind};
+ghost use Rattle.node_rules.specs.Reopening.{opens_first};
+ghost use Rattle.node_restart.specs.Restarts.{replayed, begun, may_take, took, taken, AreSound, IsInTurn, place_behind};
 ghost use Rattle.node_restart.specs.declared.fault.ReopenFault.TheVariants.{Damaged};
 
 use crate::fault::ReopenFault;
@@ -70,7 +69,6 @@ fn replay_decision<S: Service>(
     ensures state { OnOk result (replica.new.replica ≡ replayed S.meaning past replica.old.replica (Decided decision.now)) }
     ensures spent { replica.new.spent ≡ is_err result }
     ensures place { replica.new.replica.place ≡ place_behind past replica.old.replica.place (Decided decision.now) }
-    ensures views { replica.new.replica.views ≡ replica.old.replica.views }
 {
     // That a place is below 2^63 is known of its type.
     let place = decision.slot.place.get();
@@ -94,7 +92,6 @@ fn replay<S: Service>(
     ensures state { OnOk result (replica.new.replica ≡ replayed S.meaning past replica.old.replica entry.now) }
     ensures spent { replica.new.spent ≡ is_err result }
     ensures place { replica.new.replica.place ≡ place_behind past replica.old.replica.place entry.now }
-    ensures views { replica.new.replica.views ≡ replica.old.replica.views }
 {
     match entry {
         LogEntry::Decided(decision) => {
@@ -135,11 +132,12 @@ impl<S: Service> Restart<S> {
         self.book.pushed().len() as u64
     }
 
-    /// The view in force.
-    fn view(&self) -> &View
-        ensures { result.now ≡ present self.now.replica.views }
+    /// The views that the replica knows.
+    fn views(&self) -> &[View]
+        ensures value { result.now ≡ self.now.replica.views }
+        ensures some { 0 < length result.now }
     {
-        self.replica.replica().views.present()
+        self.replica.replica().views.as_slice()
     }
 
     /// Whether the book admits an entry as a restored one.
@@ -156,16 +154,16 @@ impl<S: Service> Restart<S> {
         !self.book.pushed().is_empty() || is_opening(entry)
     }
 
-    /// Whether an entry may be restored after the others. Error: want of memory.
-    fn may_restore(&self, ring: &Ring, entry: &LogEntry) -> Result<bool, AllocError>
+    /// Whether an entry may be taken back after the others. Error: want of memory.
+    fn may_take(&self, ring: &Ring, entry: &LogEntry) -> Result<bool, AllocError>
         requires sound { AreSound ring.now self.now.entries }
         requires fits { FitsEntry entry.now }
-        ensures { IfOk result (λ may. may ≡ may_restore ring.now self.now.past (present self.now.replica.views) self.now.entries entry.now) }
+        ensures { IfOk result (λ may. may ≡ may_take ring.now self.now.replica.views self.now.past self.now.entries entry.now) }
     {
         if !self.opens_first(entry) || !self.admits(entry) {
             return Ok(false);
         }
-        rests(self.alloc, ring, self.view(), &self.book, entry)
+        rests(self.alloc, ring, self.views(), &self.book, entry)
     }
 
     /// Writes an entry into the book, and delivers what it decided past the first replica's place. Error:
@@ -173,7 +171,6 @@ impl<S: Service> Restart<S> {
     fn push(self, entry: LogEntry) -> Result<Self, AllocError>
         requires { IsInTurn self.past self.replica.place entry }
         ensures later { IfOk result (λ later. later ≡ took S.meaning self entry) }
-        ensures views { IfOk result (λ later. later.replica.views ≡ self.replica.views) }
     {
         let Restart {
             alloc,
@@ -196,14 +193,13 @@ impl<S: Service> Restart<S> {
     pub fn take(self, ring: &Ring, bytes: &[u8]) -> Result<Self, ReopenFault>
         requires sound { AreSound ring.now self.entries }
         ensures taken { IfOk result (λ later. taken S.meaning ring.now self (entry_decoded bytes.now) ≡ Some later) }
-        ensures views { IfOk result (λ later. later.replica.views ≡ self.replica.views) }
         ensures sound { IfOk result (λ later. AreSound ring.now later.entries) }
         ensures cause { (entry : ℕ) → IsErrOf result (Damaged entry) → (taken S.meaning ring.now self (entry_decoded bytes.now) ≡ None) × (entry ≡ length self.entries + 1) }
     {
         let number = self.made() + 1;
         match decode_entry(self.alloc, bytes) {
             Ok(entry) => {
-                if !self.may_restore(ring, &entry)? {
+                if !self.may_take(ring, &entry)? {
                     return Err(ReopenFault::Damaged { entry: number });
                 }
                 let later = self.push(entry)?;

@@ -1,17 +1,21 @@
 //! The evidence of entries.
-ghost use Rattle.std.specs.Prelude.{◌≡◌, ◌==◌, ◌&&◌, true, is_none, IfOk};
+ghost use Rattle.std.specs.Prelude.{◌≡◌, ◌==◌, ◌&&◌, ◌<◌, length, true, is_none, Some, IfOk};
+ghost use Rattle.std.specs.Option.{option_copied};
 ghost use Rattle.smart_statements.specs.Batches.{FitsBatch};
 ghost use Rattle.certificates.specs.Certificates.{votes_fault, marks_fault, write_of, accept_of};
 ghost use Rattle.replica_rules.specs.Seals.{digest_of};
 ghost use Rattle.node_rules.specs.Arrivals.{is_batch_for};
-ghost use Rattle.node_rules.specs.Reopening.{is_opening, rests};
+ghost use Rattle.certificates.specs.Collects.{view_numbered};
+ghost use Rattle.node_rules.specs.Reopening.{is_opening, rests, rests_in, view_for};
 ghost use Rattle.node_restart.specs.Restarts.{named_for, AreSound};
 ghost use Rattle.vote_book.specs.Entries.{FitsEntry};
 ghost use Rattle.vote_book.specs.declared.entry.LogEntry.TheVariants.{Accepted, Decided, Installed};
 
 use crate::batch::{is_batch_for, is_same, named_for};
 use certificates::check::{check_marks, check_proof, check_write_cert};
+use certificates::collect::view_holding;
 use smart_base::bytes::Digest32;
+use smart_base::number::{Place, ViewNo};
 use smart_base::view::View;
 use smart_keys::ring::Ring;
 use smart_statements::batch::Batch;
@@ -43,7 +47,7 @@ fn accept_rests(
     view: &View,
     accept: &Accept,
 ) -> Result<bool, AllocError>
-    ensures { IfOk result (λ holds. holds ≡ rests ring.now view.now (Accepted accept.now)) }
+    ensures { IfOk result (λ holds. holds ≡ rests_in ring.now view.now (Accepted accept.now)) }
 {
     let Accept {
         slot,
@@ -111,7 +115,7 @@ fn decision_rests(
 ) -> Result<bool, AllocError>
     requires sound { AreSound ring.now book.now.entries }
     requires fits { FitsBatch decision.now.batch }
-    ensures { IfOk result (λ holds. holds ≡ rests ring.now view.now (Decided decision.now)) }
+    ensures { IfOk result (λ holds. holds ≡ rests_in ring.now view.now (Decided decision.now)) }
 {
     let Decision {
         slot,
@@ -129,7 +133,7 @@ fn decision_rests(
 
 /// Whether an installation has its certificate of marks. It needs no memory.
 fn installation_rests(ring: &Ring, view: &View, installation: &Installation) -> bool
-    ensures { result ≡ rests ring.now view.now (Installed installation.now) }
+    ensures { result ≡ rests_in ring.now view.now (Installed installation.now) }
 {
     let Installation {
         place,
@@ -140,27 +144,66 @@ fn installation_rests(ring: &Ring, view: &View, installation: &Installation) -> 
     *number == view.number() && check_marks(ring, view, *place, *digest, marks.as_slice()).is_ok()
 }
 
-/// Whether an entry's evidence holds in a view, after the entries of a book. It needs memory for the
-/// bytes of two batches alone. Error: want of memory.
+/// The view that holds a place: the last that starts there or earlier, or else the first of all.
+fn view_for(views: &[View], place: Place) -> &View
+    requires { 0 < length views.now }
+    ensures { Some result.now ≡ view_for views.now place }
+{
+    match view_holding(&views[1..], place) {
+        Some(view) => view,
+        None => &views[0],
+    }
+}
+
+/// The view of a number, if it is one of these.
+fn view_numbered(views: &[View], number: ViewNo) -> Option<&View>
+    ensures { option_copied result ≡ view_numbered views.now number }
+{
+    for view in views {
+        if view.number() == number {
+            return Some(view);
+        }
+    }
+    None
+}
+
+/// Whether an installation's certificate holds in the view that it names.
+fn installation_holds(ring: &Ring, views: &[View], installation: &Installation) -> bool
+    ensures { result ≡ rests ring.now views.now (Installed installation.now) }
+{
+    match view_numbered(views, installation.view) {
+        Some(view) => installation_rests(ring, view, installation),
+        None => false,
+    }
+}
+
+/// Whether an entry's evidence holds by some views, after the entries of a book. It needs memory for
+/// the bytes of two batches alone. Error: want of memory.
 pub fn rests(
     alloc: Global,
     ring: &Ring,
-    view: &View,
+    views: &[View],
     book: &Book,
     entry: &LogEntry,
 ) -> Result<bool, AllocError>
+    requires some { 0 < length views.now }
     requires sound { AreSound ring.now book.now.entries }
     requires fits { FitsEntry entry.now }
-    ensures { IfOk result (λ holds. holds ≡ rests ring.now view.now entry.now) }
+    ensures { IfOk result (λ holds. holds ≡ rests ring.now views.now entry.now) }
 {
     match entry {
-        LogEntry::Accepted(accept) => accept_rests(alloc, ring, view, accept),
-        LogEntry::Decided(decision) => decision_rests(alloc, ring, view, book, decision),
+        LogEntry::Accepted(accept) => {
+            accept_rests(alloc, ring, view_for(views, accept.slot.place), accept)
+        }
+        LogEntry::Decided(decision) => {
+            let view = view_for(views, decision.slot.place);
+            decision_rests(alloc, ring, view, book, decision)
+        }
         LogEntry::Opened(_)
         | LogEntry::Wrote(_)
         | LogEntry::Promised(_)
         | LogEntry::Synced(_)
         | LogEntry::Marked(_) => Ok(true),
-        LogEntry::Installed(installation) => Ok(installation_rests(ring, view, installation)),
+        LogEntry::Installed(installation) => Ok(installation_holds(ring, views, installation)),
     }
 }

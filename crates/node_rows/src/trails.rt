@@ -24,6 +24,7 @@ fn told_target(alloc: Global, kind: &str, addressed: &Addressed) -> Result<Strin
             format!(in alloc; "{kind} c{number}")
         }
         Target::View => format!(in alloc; "{kind} view"),
+        Target::Clients => format!(in alloc; "{kind} clients"),
     }
 }
 

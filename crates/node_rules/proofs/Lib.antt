@@ -1,4 +1,3 @@
 pub mod Entries
-pub mod Parts
 pub mod Options
 pub mod Rulewise

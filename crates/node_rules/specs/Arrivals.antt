@@ -9,7 +9,7 @@ use Rattle.smart_statements.specs.Forms.{Form, SignedBy}
 use Rattle.smart_statements.specs.Kinds.{requests, proposals, ballots, answers}
 use Rattle.smart_statements.specs.Batches.{Batch}
 use Rattle.smart_statements.specs.Reports.{reports, marks}
-use Rattle.smart_messages.specs.Regencies.{stops, syncs}
+use Rattle.smart_messages.specs.Regencies.{stops, syncs, view_infos}
 use Rattle.smart_statements.specs.declared.statement.Request.{Request}
 use Rattle.smart_statements.specs.declared.statement.Slot.{Slot}
 use Rattle.smart_statements.specs.declared.statement.Ballot.{Ballot}
@@ -30,7 +30,7 @@ use Rattle.state_marks.specs.Tables as tables_of_marks
 use Rattle.regency_sync.specs.Choices.{choice}
 use Rattle.regency_sync.specs.Synchronizers.{repeats_stop, repeats_report, repeats_sync}
 use Rattle.replica_rules.specs.Replicas.{is_next}
-use Rattle.replica_rules.specs.Seals.{is_verified, digest_of, is_managers, fits}
+use Rattle.replica_rules.specs.Seals.{is_verified, digest_of, fits}
 use Rattle.replica_rules.specs.Pools.{offered}
 use Rattle.node_rules.specs.Nodes.{Node, view_of, regency_of, start_of, is_begun, bound_at, is_within, decided_place, synchronizer_of, ring_of}
 use Rattle.transfer_form.specs.declared.transfer.ProvenBatch.{ProvenBatch}
@@ -94,19 +94,19 @@ is_same_vote b m =
 
 -- ---- what orders requests
 
--- the first reason to drop a request. INTERIM(views): the view manager is a stranger.
+-- the first reason to drop a request
 unfoldable pub why_ask : {S : Type 0} → Node S → SignedBy Request → Option Why
 why_ask n q =
     if not (is_member (view_of n) n.id) then Some NotMember
     else if not (is_verified requests (ring_of n) q) then Some BadTag
-    else if (q.signer == 0) || nat_lt LAST_CLIENT q.signer then Some Stranger
+    else if nat_lt LAST_CLIENT q.signer then Some Stranger
     else if tables.is_executed n.replica.table q.statement.client q.statement.seq && is_none (tables.kept_reply n.replica.table q.statement.client q.statement.seq) then Some OldSeq
     else if tables.is_beyond n.replica.table q.statement.client q.statement.seq then Some FarSeq
     else None
 
--- a batch that may stand at a place, and that a digest names. INTERIM(views): it has no request of the view manager.
+-- a batch that may stand at a place, and that a digest names
 unfoldable pub is_batch_for : List ℕ → ℕ → List ℕ → Batch → Bool
-is_batch_for secret place digest batch = fits secret batch place && not (list_any is_managers batch) && same_bytes (digest_of batch) digest
+is_batch_for secret place digest batch = fits secret batch place && same_bytes (digest_of batch) digest
 
 -- a proposal in the regency in force whose digest is not the one that binds at its place
 abbrev pub is_unbound : {S : Type 0} → Node S → Proposed → Bool
@@ -280,6 +280,7 @@ why_dropped n (changes.Mark m) = why_mark n m
 why_dropped n (changes.StateAsk a) = why_state_ask n a
 why_dropped n (changes.StateOffer o) = why_offer n o
 why_dropped n (changes.StatePart p) = why_part n p
+why_dropped n (changes.ViewTold i) = why_unasked view_infos n i
 
 -- ---- what tells a node that it is behind
 
@@ -328,3 +329,4 @@ kept n (changes.Mark m) = record n { marks = tables_of_marks.noted m n.marks }
 kept n (changes.StateAsk a) = n
 kept n (changes.StateOffer o) = record n { offers = n.offers ++ verified_offer (ring_of n) o ∷ [] }
 kept n (changes.StatePart p) = record n { fetch = option_map (λ (f : Fetch). kept_unless None f p) n.fetch }
+kept n (changes.ViewTold i) = n

@@ -20,6 +20,7 @@ delivery_in fires.Accepted = []
 delivery_in (fires.Decided place) = []
 delivery_in fires.Timed = []
 delivery_in fires.Answered = []
+delivery_in (fires.Viewed view) = []
 
 -- the place of the replica that a rule's event installs, if it installs one
 abbrev pub installed_in : Fired → Option ℕ
@@ -37,6 +38,7 @@ installed_in fires.Accepted = None
 installed_in (fires.Decided place) = None
 installed_in fires.Timed = None
 installed_in fires.Answered = None
+installed_in (fires.Viewed view) = None
 
 -- deliveries at successive places, the first at a given one
 abbrev pub AtPlaces : ℕ → List Delivery → Type 0

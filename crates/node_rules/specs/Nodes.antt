@@ -10,7 +10,9 @@ use Rattle.smart_statements.specs.declared.report.Mark.{Mark}
 use Rattle.smart_messages.specs.declared.regency.Stop.{Stop}
 use Rattle.smart_messages.specs.declared.regency.Sync.{Sync}
 use Rattle.smart_messages.specs.declared.regency.Reported.{Reported}
+use Rattle.smart_messages.specs.Regencies.{view_infos}
 use Rattle.smart_messages.specs.declared.message.Message.{Message}
+use Rattle.smart_messages.specs.declared.message.Message.TheVariants.{ViewTold}
 use Rattle.transfer_form.specs.declared.transfer.ProvenBatch.{ProvenBatch}
 use Rattle.transfer_form.specs.declared.transfer.StateOffer.{StateOffer}
 use Rattle.state_transfer.specs.declared.fetch.Fetch.{Fetch}
@@ -24,6 +26,7 @@ use Rattle.replica_rules.specs.Seals.{signed}
 use Rattle.node_rules.specs.declared.node.Held.{Held}
 use Rattle.node_rules.specs.declared.node.OwnSnapshot.{OwnSnapshot}
 use Rattle.node_rules.specs.declared.node.Target.{Target}
+use Rattle.node_rules.specs.declared.node.Target.TheVariants as targets
 
 -- a member's node: its replica, what came and is still needed, its book, and what waits to be sent
 pub record Node (S : Type 0) : Type 0 where
@@ -203,6 +206,43 @@ holding_all n to (m ∷ ms) = holding_all (holding n to m) to ms
 -- this way.
 abbrev pub sending : {S A : Type 0} → Node S → Target → Form A → A → (SignedBy A → Message) → Node S
 sending n to form s around = holding n to (around (signs n form s))
+
+-- a later node in the view of an earlier one
+abbrev pub stays_in_view : {S : Type 0} → Node S → Node S → Bool
+stays_in_view n n' = (view_of n).number == (view_of n').number
+
+-- The node in its view, or in one that has just begun. What it kept is of views that are over, and so is what it did in a regency: nothing of it is
+-- used again. What it kept of other members' places and replicas stays.
+abbrev pub entered : {S : Type 0} → Bool → Node S → Node S
+entered stays n = record n {
+  arrivals = if stays then n.arrivals else [];
+  stops = if stays then n.stops else [];
+  reports = if stays then n.reports else [];
+  syncs = if stays then n.syncs else [];
+  proposed = if stays then n.proposed else [];
+  stop_made = n.stop_made && stays;
+  sync_made = n.sync_made && stays;
+}
+
+-- a later node, in the view of an earlier one or in a later view
+abbrev pub enters : {S : Type 0} → Node S → Node S → Node S
+enters n n' = entered (stays_in_view n n') n'
+
+-- what a node states of its view in force
+abbrev pub view_told : {S : Type 0} → Node S → Message
+view_told n = ViewTold (signs n view_infos (record { view = view_of n }))
+
+-- a node that tells its view, unless it is known
+abbrev pub telling : {S : Type 0} → Bool → Target → Node S → Node S
+telling known to n = record n { held = if known then n.held else n.held ++ record { to = to; message = view_told n; needs = length n.entries } ∷ [] }
+
+-- a node that tells its view to the clients that have asked, unless it stayed in it
+abbrev pub informed : {S : Type 0} → Bool → Node S → Node S
+informed stays n = telling stays targets.Clients n
+
+-- a later node, which tells its view if that is not the earlier one's
+abbrev pub informs : {S : Type 0} → Node S → Node S → Node S
+informs n n' = informed (stays_in_view n n') n'
 
 -- an entry added to the book
 abbrev pub recording : {S : Type 0} → Node S → LogEntry → Node S

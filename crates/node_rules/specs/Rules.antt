@@ -1,9 +1,9 @@
 -- The rules that order requests and answer them. Each rule has three definitions: what is due, what the rule does with it, and both
 -- together.
-use Rattle.std.specs.Prelude.{ℕ, ◌+◌, ◌^◌, ◌==◌, nat_lt, not, ◌&&◌, List, [], ◌∷◌, ◌++◌, length, find, filter_map, if◌then◌else◌, Option, Some, None, option_map, Bool, false}
+use Rattle.std.specs.Prelude.{ℕ, ◌+◌, ◌^◌, ◌==◌, nat_lt, nat_le, not, ◌&&◌, List, [], ◌∷◌, ◌++◌, length, find, filter_map, if◌then◌else◌, Option, Some, None, option_map, Bool, false}
 use Rattle.std.specs.List.{list_any}
 use Rattle.smart_base.specs.Lists.{or_else}
-use Rattle.smart_base.specs.Views.{View, is_member, leader, first_quorum}
+use Rattle.smart_base.specs.Views.{View, is_member, leader, first_quorum, present}
 use Rattle.smart_statements.specs.Equality.{same_slot}
 use Rattle.smart_statements.specs.Kinds.{proposals, ballots, answers}
 use Rattle.smart_statements.specs.Batches.{Batch}
@@ -21,6 +21,7 @@ use Rattle.smart_messages.specs.declared.message.Message.TheVariants as changes
 use Rattle.transfer_form.specs.declared.transfer.ProvenBatch.{ProvenBatch}
 use Rattle.smart_messages.specs.declared.message.Proposed.{Proposed}
 use Rattle.smart_service.specs.Services.{Meaning}
+use Rattle.smart_service.specs.declared.replica.Replica.{Replica}
 use Rattle.smart_service.specs.declared.table.Execution.{Execution}
 use Rattle.smart_service.specs.Tables.{kept_reply}
 use Rattle.vote_book.specs.Admission.{writes_in, accepts_in}
@@ -31,7 +32,7 @@ use Rattle.replica_rules.specs.Replicas.{delivered, executed_lines}
 use Rattle.replica_rules.specs.Seals.{signed, digest_of}
 use Rattle.replica_rules.specs.Pools.{settled, gathered}
 use Rattle.node_rules.specs.Votes.{has_quorum, certificate_votes, proposed_for, known, accepted_in, decision_by, accepted_under}
-use Rattle.node_rules.specs.Nodes.{Node, view_of, regency_of, start_of, next_place, open_slot, is_free, is_open, bound_at, is_within, synchronizer_of, signs, sending, recording}
+use Rattle.node_rules.specs.Nodes.{Node, view_of, enters, telling, informs, regency_of, start_of, next_place, open_slot, is_free, is_open, bound_at, is_within, synchronizer_of, signs, sending, recording}
 use Rattle.node_rules.specs.Arrivals.{slot_shown}
 use Rattle.node_rules.specs.declared.node.Asked.{Asked}
 use Rattle.node_rules.specs.declared.node.Called.{Called}
@@ -68,18 +69,24 @@ replying n (line ∷ lines) = replying (replies_with n line) lines
 abbrev pub lines_to_answer : {S : Type 0} → Meaning S → Node S → Batch → List Execution
 lines_to_answer m n batch = if is_member (view_of n) n.id then executed_lines m n.replica batch else []
 
--- what delivery does: execute the batch, drop what may not be executed now from the pool, end the wait, and reply
+-- What delivery does: execute the batch, drop what may not be executed now from the pool, end the wait, and reply. The batch may begin a view. The
+-- node then tells it to the clients that have asked, whether it is a member or not.
 unfoldable pub deliver_batch : {S : Type 0} → Meaning S → Node S → Option Batch → Node S
 deliver_batch m n None = n
 deliver_batch m n (Some batch) =
     let replica = delivered m n.replica batch in
-    replying (record n { replica = replica; waiting = None; pool = settled replica.table n.pool; impatient = false }) (lines_to_answer m n batch)
+    informs n (replying (enters n (record n { replica = replica; waiting = None; pool = settled replica.table n.pool; impatient = false })) (lines_to_answer m n batch))
 
--- the event of a delivery: its place, its batch, and how many of its requests were executed
+-- the event of a view that began: the number of the view in force then
+abbrev pub begun_in : {S : Type 0} → Replica S → Replica S → List Fired
+begun_in r r' = if (present r.views).number == (present r'.views).number then [] else fires.Viewed (present r'.views).number ∷ []
+
+-- the events of a delivery: its place, its batch, and how many of its requests were executed; then the view that it began
 unfoldable pub delivery : {S : Type 0} → Meaning S → Node S → Option Batch → List Fired
 delivery m n None = []
 delivery m n (Some batch) =
-    fires.Delivered (record { place = next_place n; batch = batch; executed = length (executed_lines m n.replica batch) }) ∷ []
+    fires.Delivered (record { place = next_place n; batch = batch; executed = length (executed_lines m n.replica batch) })
+    ∷ begun_in n.replica (delivered m n.replica batch)
 
 -- The rule that delivers: the waiting batch, if there is one, is executed and answered (state machine replication). Replies wait for the log
 -- (Dura-SMaRt, USENIX ATC 2013).
@@ -251,15 +258,21 @@ called_by (changes.Mark m) = calls.Nobody
 called_by (changes.StateAsk a) = calls.State a
 called_by (changes.StateOffer o) = calls.Offered
 called_by (changes.StatePart p) = calls.Nobody
+called_by (changes.ViewTold i) = calls.Nobody
 
 -- the execution whose reply is due again: the one of the request, if its reply is kept
 unfoldable pub answering : {S : Type 0} → Node S → Asked → Option Execution
 answering n asked = kept_reply n.replica.table asked.client asked.seq
 
--- a kept reply put into the outbox, if there is one
+-- A node that tells its view to a client, unless it is the group's first one, which all clients know. Views are numbered from 0, so each further one
+-- has a number above 0.
+abbrev pub telling_view : {S : Type 0} → Node S → ℕ → Node S
+telling_view n client = telling (nat_le (length n.replica.views) 1) (targets.Client client) n
+
+-- A kept reply put into the outbox, if there is one, and behind it the view in force. The client of the reply may not know it.
 unfoldable pub answer_line : {S : Type 0} → Node S → Option Execution → Node S
 answer_line n None = n
-answer_line n (Some line) = replies_with n line
+answer_line n (Some line) = telling_view (replies_with n line) line.client
 
 -- the rule that answers a repeated request (the kept reply of state machine replication)
 unfoldable pub answers_again : {S : Type 0} → Node S → Asked → Node S

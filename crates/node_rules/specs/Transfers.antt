@@ -1,8 +1,9 @@
 -- The rules by which a node takes over a replica, and gives its own to others (collaborative state transfer: Dura-SMaRt, USENIX ATC 2013).
-use Rattle.std.specs.Prelude.{ℕ, zero, suc, ◌+◌, ◌-◌, ◌==◌, nat_lt, nat_le, Bool, not, ◌&&◌, List, [], ◌∷◌, ◌++◌, length, map, filter, filter_map, drop, find, if◌then◌else◌, Option, Some, None, is_none, option_map, Result, Ok, Err}
+use Rattle.std.specs.Prelude.{ℕ, zero, suc, ◌+◌, ◌-◌, ◌==◌, nat_lt, nat_le, Bool, false, not, ◌&&◌, List, [], ◌∷◌, ◌++◌, length, map, filter, filter_map, drop, find, if◌then◌else◌, Option, Some, None, is_none, option_map, Result, Ok, Err}
 use Rattle.std.specs.Option.{option_to_list}
-use Rattle.smart_base.specs.Lists.{or_else, same_list, same_bytes}
-use Rattle.smart_base.specs.Views.{View}
+use Rattle.std.specs.List.{list_all}
+use Rattle.smart_base.specs.Lists.{or_else, same_bytes}
+use Rattle.smart_base.specs.Views.{View, is_view}
 use Rattle.smart_base.specs.declared.limits.TheConstants.{MARKS}
 use Rattle.smart_statements.specs.Forms.{SignedBy}
 use Rattle.smart_statements.specs.Reports.{marks}
@@ -29,10 +30,10 @@ use Rattle.state_transfer.specs.declared.choice.Plan.{Plan}
 use Rattle.vote_book.specs.declared.entry.Decision.{Decision}
 use Rattle.vote_book.specs.declared.entry.LogEntry.{LogEntry}
 use Rattle.vote_book.specs.declared.entry.LogEntry.TheVariants.{Opened, Wrote, Accepted, Promised, Synced, Decided, Installed, Marked}
-use Rattle.node_rules.specs.Nodes.{Node, view_of, signs, holding, holding_all, recording}
+use Rattle.node_rules.specs.Nodes.{Node, view_of, next_place, enters, signs, holding, holding_all, recording}
 use Rattle.node_rules.specs.Changes.{state_ask}
 use Rattle.node_rules.specs.Marks.{newest_firm, firm_at}
-use Rattle.node_rules.specs.Rules.{fired_if, answering, answers_again}
+use Rattle.node_rules.specs.Rules.{fired_if, answering, answers_again, begun_in}
 use Rattle.node_rules.specs.declared.node.Called.{Called}
 use Rattle.node_rules.specs.declared.node.Called.TheVariants as calls
 use Rattle.node_rules.specs.declared.node.Fired.{Fired}
@@ -69,7 +70,7 @@ keeps_over n f = record n { taken = n.taken ++ taken_over n f ∷ [] }
 -- what an installation does: it is recorded, the replica is the plan's, the snapshot is an own one, and all members are asked for more
 unfoldable pub install_replica : {S : Type 0} → Node S → Fetch → Replica S → Node S
 install_replica n f r =
-    let installed = keeps_over (record (recording n (installed_by f.plan)) { replica = r; pool = settled r.table n.pool; fetch = None }) f in
+    let installed = keeps_over (enters n (record (recording n (installed_by f.plan)) { replica = r; pool = settled r.table n.pool; fetch = None })) f in
     holding installed targets.View (state_ask installed 0)
 
 -- an offer that is not the plan's
@@ -84,9 +85,16 @@ spoil n f = record n { fetch = None; offers = filter (is_other_offer f.plan) n.o
 abbrev pub same_view : View → View → Bool
 same_view a b = (a.number == b.number) && (a.start == b.start) && (a.f == b.f) && same_bytes a.members b.members
 
--- A replica of the views that the node knows. INTERIM(views): the group's view never changes, so a replica of others is not the group's.
+-- views that go on from those that are known: they begin with these, and each further one is valid and starts past a place
+abbrev pub go_on : ℕ → List View → List View → Bool
+go_on place [] more = list_all (λ v. is_view v && nat_lt place v.start) more
+go_on place (v ∷ views) [] = false
+go_on place (v ∷ views) (w ∷ more) = same_view v w && go_on place views more
+
+-- A replica of the node's group: its views go on from those that the node knows. The node has not voted past its next place, and the view in force
+-- there is known. So each further view starts past that place.
 abbrev pub is_of_group : {S : Type 0} → Node S → Replica S → Bool
-is_of_group n r = same_list same_view r.views n.replica.views
+is_of_group n r = go_on (next_place n) n.replica.views r.views
 
 abbrev pub install_by : {S : Type 0} → Node S → Fetch → Result (Replica S) Spoiled → Node S
 install_by n f (Ok r) = if is_of_group n r then install_replica n f r else spoil n f
@@ -96,14 +104,14 @@ unfoldable pub install_fetch : {S : Type 0} → Meaning S → Node S → Option 
 install_fetch m n None = n
 install_fetch m n (Some f) = install_by n f (finished m f)
 
-abbrev pub told_install : {S : Type 0} → Node S → Fetch → Result (Replica S) Spoiled → Fired
-told_install n f (Ok r) = if is_of_group n r then fires.Installed f.plan.place else fires.Spoiled
-told_install n f (Err why) = fires.Spoiled
+abbrev pub told_install : {S : Type 0} → Node S → Fetch → Result (Replica S) Spoiled → List Fired
+told_install n f (Ok r) = if is_of_group n r then fires.Installed f.plan.place ∷ begun_in n.replica r else fires.Spoiled ∷ []
+told_install n f (Err why) = fires.Spoiled ∷ []
 
--- the event of an installation, or of parts that make none
+-- the events of an installation, with the view that it began, or of parts that make none
 unfoldable pub install_told : {S : Type 0} → Meaning S → Node S → Option Fetch → List Fired
 install_told m n None = []
-install_told m n (Some f) = told_install n f (finished m f) ∷ []
+install_told m n (Some f) = told_install n f (finished m f)
 
 -- the rule that installs: a replica that enough members certify is taken over (Dura-SMaRt, USENIX ATC 2013)
 unfoldable pub installs : {S : Type 0} → Meaning S → Node S → Node S

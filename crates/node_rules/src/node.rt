@@ -1,6 +1,6 @@
 //! What a node tells and sends.
 use smart_base::name::{ClientId, MemberId};
-use smart_base::number::Place;
+use smart_base::number::{Place, ViewNo};
 use smart_base::sequence::{Bytes, Sequence};
 use smart_messages::message::Message;
 use smart_statements::batch::Batch;
@@ -89,6 +89,8 @@ pub enum Target {
     Client(ClientId),
     /// All members of the sender's view, the sender among them.
     View,
+    /// All clients that have asked.
+    Clients,
 }
 
 /// A message that leaves after the first `needs` entries of its node's book are firm.
@@ -162,4 +164,7 @@ pub enum Fired {
     /// A client that repeated its last request was sent its reply again, a member that asked for state
     /// was given what there is, or an offer made a plan possible.
     Answered,
+    /// The view in force has changed. This is the number of the new one. INTERIM(views): no rule
+    /// changes it.
+    Viewed(ViewNo),
 }

@@ -4,3 +4,4 @@ pub mod Broken
 pub mod Starts
 pub mod Stopped
 pub mod Newest
+pub mod Summaries

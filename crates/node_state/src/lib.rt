@@ -6,3 +6,5 @@ pub mod seal;
 pub mod shown;
 pub mod snapshots;
 pub mod state;
+pub mod summary;
+pub mod views;

@@ -75,10 +75,10 @@ front-step m n event =
 abbrev count_of : {S : Type 0} → Node S → ℕ
 count_of n = passing is_installation n.entries
 
-count-step : {S : Type 0} (m : Meaning S) (n : Node S) (event : NodeEvent) → count_of n ≤ count_of (step_of m n event).node
+pub count-step : {S : Type 0} (m : Meaning S) (n : Node S) (event : NodeEvent) → count_of n ≤ count_of (step_of m n event).node
 count-step m n event = front_pass is_installation n.entries (step_of m n event).node.entries (front-step m n event)
 
-count_after : {S : Type 0} (m : Meaning S) (n : Node S) (events : List NodeEvent) → count_of n ≤ count_of (node_after m n events)
+pub count_after : {S : Type 0} (m : Meaning S) (n : Node S) (events : List NodeEvent) → count_of n ≤ count_of (node_after m n events)
 count_after m n [] = omega arith
 count_after {S = S} m n (e ∷ es) =
     let next : Node S = (step_of m n e).node in
@@ -188,7 +188,7 @@ same-takes_in : {S : Type 0} (n : Node S) (event : NodeEvent) → (takes_in n ev
 same-takes_in {S = S} n event =
     takes_in_as (λ (x : Node S). x.entries ≡ n.entries) (λ message. Unit {0}) n event (λ x. noted_same n x) (λ x none may. kept_same (noted n x) x ∙ noted_same n x) (λ count. refl) (free-event event) refl
 
-order-step : {S : Type 0} (m : Meaning S) (base : Replica S) (n : Node S) (event : NodeEvent) → count_of (step_of m n event).node ≤ count_of n → DeliversInOrder m base n
+pub order-step : {S : Type 0} (m : Meaning S) (base : Replica S) (n : Node S) (event : NodeEvent) → count_of (step_of m n event).node ≤ count_of n → DeliversInOrder m base n
     → DeliversInOrder m base (step_of m n event).node
 unfolding step_of
 order-step {S = S} m base n event quiet d =
@@ -204,7 +204,7 @@ get-more (y ∷ xs) ys zero x at = at
 get-more (y ∷ xs) ys (suc k) x at = get-more xs ys k x at
 
 -- the place of a replica is decided
-place_within : {S : Type 0} (n : Node S) → n.replica.place ≤ decided_place n
+pub place_within : {S : Type 0} (n : Node S) → n.replica.place ≤ decided_place n
 place_within n = by (is_some n.waiting)
   where
     by : (t : Bool) → n.replica.place ≤ cond t (n.replica.place + 1) n.replica.place

@@ -1,13 +1,16 @@
 -- What a step tells: first of an installation, if there is one, and then of rules that install nothing.
-use Rattle.std.proofs.Common.{◌≡◌, ◌++◌, Bool, true, false, List, [], ◌∷◌, refl, sym, ap, ◌∙◌, append-nil, append_assoc, Option, Some, None, is_some}
+use Rattle.std.proofs.Common.{◌≡◌, ◌==◌, ◌++◌, Bool, true, false, List, [], ◌∷◌, refl, sym, ap, ◌∙◌, append-nil, append_assoc, Option, Some, None, is_some}
 use Rattle.smart_base.specs.Lists.{Each}
+use Rattle.smart_base.specs.Views.{present}
 use Rattle.smart_statements.specs.Forms.{SignedBy}
 use Rattle.smart_statements.specs.Batches.{Batch}
 use Rattle.smart_messages.specs.declared.regency.Sync.{Sync}
 use Rattle.smart_service.specs.Services.{Meaning}
+use Rattle.smart_service.specs.declared.replica.Replica.{Replica}
+use Rattle.replica_rules.specs.Replicas.{delivered}
 use Rattle.snapshot_form.specs.Snapshots.{snapshot_text}
 use Rattle.node_rules.specs.Nodes.{Node, next_place}
-use Rattle.node_rules.specs.Rules.{fired_if, delivers, delivery, proposing, proposes, writing, writes, accepting, accepts, deciding, decides, answering}
+use Rattle.node_rules.specs.Rules.{fired_if, begun_in, delivers, delivery, proposing, proposes, writing, writes, accepting, accepts, deciding, decides, answering}
 use Rattle.node_rules.specs.Changes.{fired_when, fired_adopt, adoption, adopts, joining, joins, next_promise, promising, promises, leading, leads, timing, times}
 use Rattle.node_rules.specs.Marks.{marking}
 use Rattle.node_rules.specs.Transfers.{installs, planning, answers_call, answered_call}
@@ -19,6 +22,7 @@ use Rattle.node_rules.specs.declared.node.Cause.{Cause}
 use Rattle.node_rules.specs.declared.node.Cause.TheVariants.{Ticked, Came}
 use Rattle.node_rules.specs.declared.node.Fired.{Fired}
 use Rattle.node_rules.specs.declared.node.Fired.TheVariants as fires
+use Rattle.agreement_laws.proofs.Lists.{either}
 use Rattle.node_rules.proofs.Rulewise.{told_installed, RowKeeps, by_delivery, by_time, by_answer, later_rows, for_later, keeps_behind}
 
 -- an event that installs nothing
@@ -60,10 +64,15 @@ none_called n (calls.Request asked) = none_if fires.Answered (answering n asked)
 none_called n (calls.State a) = (refl, tt)
 none_called n calls.Offered = none_if fires.Answered (planning n) refl
 
+-- a view that begins installs nothing
+pub none_begun : {S : Type 0} (r r' : Replica S) → Each IsNoBase (begun_in r r')
+none_begun r r' =
+    either (λ (fired : List Fired). Each IsNoBase fired) ((present r.views).number == (present r'.views).number) [] (fires.Viewed (present r'.views).number ∷ []) tt (refl, tt)
+
 none_delivery : {S : Type 0} (m : Meaning S) (n : Node S) (batch : Option Batch) → Each IsNoBase (delivery m n batch)
 unfolding delivery
 none_delivery m n None = tt
-none_delivery m n (Some batch) = (refl, tt)
+none_delivery m n (Some batch) = (refl, none_begun n.replica (delivered m n.replica batch))
 
 -- what is told behind a front
 abbrev Told : {S : Type 0} → List Fired → Node S → List Fired → Type 0

@@ -1,7 +1,7 @@
 -- What is not dropped has passed its checks, and what is picked of it has what all of it has.
-use Rattle.std.proofs.Common.{◌≡◌, ℕ, Bool, true, not, ◌&&◌, ◌==◌, List, [], ◌∷◌, Option, Some, None, nat_lt}
+use Rattle.std.proofs.Common.{◌≡◌, ℕ, Bool, true, not, ◌==◌, List, [], ◌∷◌, Option, Some, None, nat_lt}
 use Rattle.std.specs.Prelude.{IfSome}
-use Rattle.std.specs.List.{list_any, list_all}
+use Rattle.std.specs.List.{list_all}
 use Rattle.smart_base.specs.Lists.{Each, or_else, same_bytes}
 use Rattle.smart_base.specs.Views.{leader, is_member}
 use Rattle.smart_statements.specs.Forms.{SignedBy}
@@ -11,7 +11,7 @@ use Rattle.smart_statements.specs.declared.statement.Request.{Request}
 use Rattle.smart_messages.specs.declared.message.Proposed.{Proposed}
 use Rattle.vote_book.specs.BookReports.{greater}
 use Rattle.vote_book.specs.declared.entry.Accept as accept
-use Rattle.replica_rules.specs.Seals.{is_verified, digest_of, request_fits, is_managers, fits}
+use Rattle.replica_rules.specs.Seals.{is_verified, digest_of, request_fits, fits}
 use Rattle.replica_rules.specs.Pools.{offered}
 use Rattle.node_rules.specs.Rules.{votable, written}
 use Rattle.node_rules.specs.Nodes.{Node, view_of}
@@ -53,8 +53,7 @@ valid_where_kept n p none =
 pub fits_where_valid : (secret : List ℕ) (place : ℕ) (digest : List ℕ) (batch : Batch) → is_batch_for secret place digest batch ≡ true → fits secret batch place ≡ true
 unfolding is_batch_for
 fits_where_valid secret place digest batch valid =
-    let two = and_true (fits secret batch place && not (list_any is_managers batch)) (same_bytes (digest_of batch) digest) valid in
-    (and_true (fits secret batch place) (not (list_any is_managers batch)) two.0).0
+    (and_true (fits secret batch place) (same_bytes (digest_of batch) digest) valid).0
 
 -- of a batch that fits, each request does
 pub fits_each : (secret : List ℕ) (batch : Batch) (place : ℕ) → fits secret batch place ≡ true → list_all (request_fits secret place) batch ≡ true

@@ -6,7 +6,7 @@ use Rattle.smart_service.specs.Services.{Meaning}
 use Rattle.smart_service.specs.declared.replica.Replica.{Replica}
 use Rattle.node_rules.specs.declared.node.Delivery.{Delivery}
 use Rattle.node_rules.specs.Nodes.{Node, next_place}
-use Rattle.node_rules.specs.Rules.{deliver_batch, delivers, delivery}
+use Rattle.node_rules.specs.Rules.{begun_in, deliver_batch, delivers, delivery}
 use Rattle.node_rules.specs.declared.node.Fired.{Fired}
 use Rattle.node_rules.specs.Deliveries.{delivery_in, AtPlaces, Segment, segment_after}
 use Rattle.node_rules.specs.Steps.{Taken, takes_in, rules, pass, passed, step_of}
@@ -23,8 +23,8 @@ use Rattle.node_rules.specs.declared.node.Fired.TheVariants as fires
 use Rattle.smart_base.specs.Lists.{Each}
 use Rattle.agreement_laws.proofs.Lists.{each_append}
 use Rattle.std.proofs.lemmas.Grind.{flat_map-append}
-use Rattle.replica_laws.proofs.Based.{IsNoBase, told-behind}
-use Rattle.replica_laws.proofs.Installs.{quiet-installs, takes-installs}
+use Rattle.replica_laws.proofs.Based.{IsNoBase, none_begun, told-behind}
+use Rattle.replica_laws.proofs.Installs.{one-delivery, quiet-installs, takes-installs}
 use Rattle.replica_laws.proofs.Segments.{segment_more, segment_goes_on, segment_begins}
 use Rattle.replica_laws.proofs.Follows.{told-marked, told-passed, waits-takes_in}
 use Rattle.replica_laws.proofs.Leaves.{leaves-mark}
@@ -42,13 +42,14 @@ pub record IsCounted (s : Segment) (place : ℕ) : Type 0 where
 place-delivery : {S : Type 0} (m : Meaning S) (n : Node S) (batch : Option Batch) → (deliver_batch m n batch).replica.place ≡ n.replica.place + length (flat_map delivery_in (delivery m n batch))
 unfolding deliver_batch delivery
 place-delivery m n None = omega arith
-place-delivery m n (Some batch) = place-deliver_batch m n (Some batch) refl
+place-delivery m n (Some batch) =
+    subst (λ (ds : List Delivery). (deliver_batch m n (Some batch)).replica.place ≡ n.replica.place + length ds) (sym (one-delivery m n batch)) (place-deliver_batch m n (Some batch) refl)
 
 -- the next
 places-delivery : {S : Type 0} (m : Meaning S) (n : Node S) (batch : Option Batch) → AtPlaces (next_place n) (flat_map delivery_in (delivery m n batch))
 unfolding delivery
 places-delivery m n None = tt
-places-delivery m n (Some batch) = (refl, tt)
+places-delivery m n (Some batch) = subst (λ (ds : List Delivery). AtPlaces (next_place n) ds) (sym (one-delivery m n batch)) (refl, tt)
 
 -- deliveries behind others
 pub places-append : (place : ℕ) (ds es : List Delivery) → AtPlaces place ds → AtPlaces (place + length ds) es → AtPlaces place (ds ++ es)
@@ -153,24 +154,27 @@ begun-passed {S = S} m n cause s place rest at free told none =
 -- what a pass makes of an installation that is due: none, parts that make no replica of the group, or a replica of the plan's place
 pub data Made {S : Type 0} (m : Meaning S) (n : Node S) : Type 0 where
   made_none : (installs m n).replica ≡ n.replica → Each IsNoBase (told_installed m n []) → Made m n
-  made_new : (place : ℕ) → (installs m n).replica.place ≡ place → n.replica.place < place → n.waiting ≡ None → told_installed m n [] ≡ fires.Installed place ∷ [] → Made m n
+  made_new : (place : ℕ) → (installs m n).replica.place ≡ place → n.replica.place < place → n.waiting ≡ None
+      → (more : List Fired) → told_installed m n [] ≡ fires.Installed place ∷ more → Each IsNoBase more → Made m n
 
 spoils_none : {S : Type 0} (m : Meaning S) (n : Node S) (f : Fetch) → installs m n ≡ spoil n f → told_installed m n [] ≡ fires.Spoiled ∷ [] → Made m n
 unfolding spoil
 spoils_none {S = S} m n f is told = made_none (ap (λ (x : Node S). x.replica) is) (subst (λ (fs : List Fired). Each IsNoBase fs) (sym told) (refl, tt))
 
-replica_new : {S : Type 0} (m : Meaning S) (n : Node S) (f : Fetch) (r : Replica S) → installs m n ≡ install_replica n f r → told_installed m n [] ≡ fires.Installed f.plan.place ∷ []
+replica_new : {S : Type 0} (m : Meaning S) (n : Node S) (f : Fetch) (r : Replica S) → installs m n ≡ install_replica n f r
+    → told_installed m n [] ≡ fires.Installed f.plan.place ∷ begun_in n.replica r
     → r.place ≡ f.plan.place → IsReady n f → Made m n
 unfolding install_replica
-replica_new {S = S} m n f r is told at due = made_new f.plan.place (ap (λ (x : Node S). x.replica.place) is ∙ at) due.later due.free told
+replica_new {S = S} m n f r is told at due = made_new f.plan.place (ap (λ (x : Node S). x.replica.place) is ∙ at) due.later due.free (begun_in n.replica r) told (none_begun n.replica r)
 
 made_group : {S : Type 0} (m : Meaning S) (n : Node S) (f : Fetch) (r : Replica S) (t : Bool) → is_of_group n r ≡ t → installing n ≡ Some f → finished m f ≡ Ok r
-    → installs m n ≡ cond t (install_replica n f r) (spoil n f) → told_installed m n [] ≡ cond t (fires.Installed f.plan.place) fires.Spoiled ∷ [] → Made m n
+    → installs m n ≡ cond t (install_replica n f r) (spoil n f) → told_installed m n [] ≡ cond t (fires.Installed f.plan.place ∷ begun_in n.replica r) (fires.Spoiled ∷ [])
+    → Made m n
 made_group m n f r true of due said is told = replica_new m n f r is told (finished_place m f r said) (installing_is n f due)
 made_group m n f r false of due said is told = spoils_none m n f is told
 
 made_by : {S : Type 0} (m : Meaning S) (n : Node S) (f : Fetch) (made : Result (Replica S) Spoiled) → finished m f ≡ made → installing n ≡ Some f → installs m n ≡ install_by n f made
-    → told_installed m n [] ≡ told_install n f made ∷ [] → Made m n
+    → told_installed m n [] ≡ told_install n f made → Made m n
 made_by m n f (Err why) said due is told = spoils_none m n f is told
 made_by m n f (Ok r) said due is told = made_group m n f r (is_of_group n r) refl due said is told
 
@@ -191,9 +195,9 @@ counted-made : {S : Type 0} (m : Meaning S) (n : Node S) (cause : Cause) (s : Se
 counted-made m n cause s (made_none same none) is =
     let b = told-behind m n cause in
     same-passed m n cause s is same (subst (λ (fs : List Fired). Each IsNoBase fs) (sym b.is) (each_append IsNoBase (told_installed m n []) b.rest none b.none))
-counted-made m n cause s (made_new place at later free told) is =
+counted-made m n cause s (made_new place at later free more told none) is =
     let b = told-behind m n cause in
-    begun-passed m n cause s place b.rest at ((takes-installs m n).waits ∙ free) (b.is ∙ ap (λ (fs : List Fired). fs ++ b.rest) told) b.none
+    begun-passed m n cause s place (more ++ b.rest) at ((takes-installs m n).waits ∙ free) (b.is ∙ ap (λ (fs : List Fired). fs ++ b.rest) told) (each_append IsNoBase more b.rest none b.none)
 
 pub counted-passed : {S : Type 0} (m : Meaning S) (n : Node S) (cause : Cause) (s : Segment) → IsCounted s n.replica.place
     → IsCounted (segment_after s (pass (rules m) n cause []).1) (pass (rules m) n cause []).0.replica.place

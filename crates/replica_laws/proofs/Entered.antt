@@ -1,5 +1,6 @@
 -- Entries that are no promise and no beginning leave a node's regency, and where it began. And what of a node no rule reads that writes an entry.
-use Rattle.std.proofs.Common.{◌≡◌, ℕ, ◌==◌, Bool, true, List, [], ◌∷◌, refl, ap, ◌∙◌, arith, Option, Some, None}
+use Rattle.std.proofs.Common.{◌≡◌, ℕ, ◌==◌, Bool, true, false, List, [], ◌∷◌, length, refl, ap, ◌∙◌, arith, Option, Some, None}
+use Rattle.smart_base.specs.Lists.{Each}
 use Rattle.smart_statements.specs.Forms.{SignedBy}
 use Rattle.smart_statements.specs.Batches.{Batch}
 use Rattle.smart_statements.specs.declared.statement.Request.{Request}
@@ -15,13 +16,13 @@ use Rattle.vote_book.specs.declared.entry.Installation.{Installation}
 use Rattle.vote_book.specs.declared.entry.Write.{Write}
 use Rattle.vote_book.specs.declared.entry.LogEntry.{LogEntry}
 use Rattle.vote_book.specs.declared.entry.LogEntry.TheVariants.{Wrote, Accepted, Decided, Installed, Marked}
-use Rattle.node_rules.specs.Nodes.{Node, view_of, regency_of, regency_in, holding, holding_all, recording}
+use Rattle.node_rules.specs.Nodes.{Node, view_of, view_told, telling, regency_of, regency_in, holding, holding_all, recording}
 use Rattle.node_rules.specs.Arrivals.{noted}
 use Rattle.node_rules.specs.Rules.{proposing, propose_batch, proposes, answering, answer_line, answers_again}
 use Rattle.node_rules.specs.Changes.{asks_next, joining, joins, leading, lead_with, leads, passes_on, presses}
 use Rattle.node_rules.specs.declared.node.Held.{Held}
 use Rattle.node_laws.proofs.Books.{greatest_push}
-use Rattle.agreement_laws.proofs.Lists.{either}
+use Rattle.agreement_laws.proofs.Lists.{either, each_end}
 use Rattle.node_rules.specs.declared.node.Asked.{Asked}
 use Rattle.node_rules.specs.declared.node.Target.{Target}
 use Rattle.node_rules.specs.declared.node.Target.TheVariants as targets
@@ -150,6 +151,18 @@ aside-gives_parts n a = aside-holding_all n (targets.Node a.member) (part_messag
 pub aside-answers_state : {S : Type 0} (n : Node S) (a : StateAsk) → Aside n (answers_state n a)
 unfolding answers_state
 aside-answers_state {S = S} n a = either (λ (x : Node S). Aside n x) (a.fetch == 0) (offers_state n a) (gives_parts n a) (aside-offers_state n a) (aside-gives_parts n a)
+
+-- a view that is told, or not
+pub aside-telling : {S : Type 0} (known : Bool) (to : Target) (n : Node S) → Aside n (telling known to n)
+aside-telling {S = S} known to n =
+    let x : Node S = telling known to n in
+    record { holds = x.held; slots = n.proposed; stopped = n.stop_made; led = n.sync_made; pressed = n.impatient; told = n.behind; same = refl }
+
+-- it is the only message more that is held
+pub each-telling : {S : Type 0} (P : Held → Type 0) (n : Node S) (known : Bool) (to : Target) → Each P n.held
+    → (known ≡ false → P (record { to = to; message = view_told n; needs = length n.entries })) → Each P (telling known to n).held
+each-telling P n true to is told = is
+each-telling P n false to is told = each_end P n.held _ is (told refl)
 
 aside-answer_line : {S : Type 0} (n : Node S) (line : Option Execution) → Aside n (answer_line n line)
 unfolding answer_line

@@ -1,5 +1,7 @@
 -- What a longer list executes, and what a line of a list's executions says.
-use Rattle.std.proofs.Common.{⊎_elim, ◌⊎◌, ◌≡◌, ℕ, zero, suc, ◌+◌, ◌-◌, ◌++◌, Bool, true, false, List, [], ◌∷◌, refl, ap, ◌∙◌, sym, cond, Some, None, inl, inr, subst, take, arith, add-one}
+use Rattle.std.proofs.Common.{⊎_elim, ◌⊎◌, ◌≡◌, ℕ, zero, suc, ◌+◌, ◌-◌, ◌++◌, ◌||◌, not, Bool, true, false, List, [], ◌∷◌, length, nat_le, refl, ap, ◌∙◌, sym, cond, Some, None, inl, inr, subst, take, arith, add-one}
+use Rattle.std.proofs.lemmas.Bool.{leb-true}
+use Rattle.std.specs.List.{list_any}
 use Rattle.std.specs.Prelude.{slice_get}
 use Rattle.std.specs.Option.{option_to_list}
 use Rattle.smart_base.specs.Lists.{Each}
@@ -10,12 +12,16 @@ use Rattle.smart_statements.specs.declared.statement.Request.{Request}
 use Rattle.smart_service.specs.Services.{Meaning}
 use Rattle.smart_service.specs.declared.table.Execution.{Execution}
 use Rattle.smart_service.specs.declared.replica.Replica.{Replica}
-use Rattle.replica_rules.specs.Replicas.{is_next, line_of, execute, line_made, lines_of, at_next, delivered, executed_lines, empty, after_batches, state, executions_from, executions, batch_at, request_at, views_after, view_at}
+use Rattle.smart_service.specs.Tables.{noting}
+use Rattle.reconfig.specs.Outcomes.{views_behind}
+use Rattle.replica_rules.specs.Seals.{is_alone, is_managers}
+use Rattle.replica_rules.specs.Replicas.{is_next, is_of_manager, outcome_at, service_made, views_made, line_of, execute, line_made, lines_of, at_next, delivered, executed_lines, empty, after_batches, state, executions_from, executions, batch_at, request_at, views_after, view_at}
 use Rattle.replica_laws.specs.Lines.{HasLine}
 use Rattle.replica_laws.proofs.OnePlace.{each_line}
 use Rattle.agreement_laws.proofs.Lists.{each_append}
 use Rattle.smart_base.proofs.ViewFacts.{each-weaken}
-use Rattle.replica_rules.proofs.Places.{executions_append, views_execute, state_views, place_execute, place_delivered}
+use Rattle.replica_rules.proofs.Managed.{state_views}
+use Rattle.replica_rules.proofs.Places.{executions_append, place_execute, place_delivered}
 
 -- lines among lines
 
@@ -66,15 +72,31 @@ pub record OfRequest {S : Type 0} (r : Replica S) (from : ℕ) (qs : Batch) (l :
   pub step : ℕ
   pub at_place : l.place ≡ r.place
   pub at_index : l.index ≡ from + step
-  pub in_view : l.view ≡ (present r.views).number
+  pub in_view : not (list_any is_managers (take step qs)) ≡ true → l.view ≡ (present r.views).number
   pub there : slice_get qs step ≡ Some request
   pub own_client : request.statement.client ≡ l.client
   pub own_seq : request.statement.seq ≡ l.seq
 
 -- the line of the first request
 of_one : {S : Type 0} (m : Meaning S) (r : Replica S) (i : ℕ) (q : SignedBy Request) (qs : Batch) (next : Bool) → Each (OfRequest r i (q ∷ qs)) (option_to_list (cond next (Some (line_of m r i q.statement)) None))
-of_one m r i q qs true = (record { request = q; step = 0; at_place = refl; at_index = omega arith; in_view = refl; there = refl; own_client = refl; own_seq = refl }, tt)
+of_one m r i q qs true = (record { request = q; step = 0; at_place = refl; at_index = omega arith; in_view = λ none. refl; there = refl; own_client = refl; own_seq = refl }, tt)
 of_one m r i q qs false = tt
+
+-- a request of another client than the view manager leaves the views
+pub views_other : {S : Type 0} (m : Meaning S) (r : Replica S) (i : ℕ) (q : Request) → is_of_manager q ≡ false → (execute m r i q).views ≡ r.views
+unfolding execute
+views_other {S = S} m r i q other = by (is_next r.table q)
+  where
+    made : views_made r q ≡ r.views
+    made = ap (λ (c : Bool). cond c (views_behind r.views (outcome_at r q)) r.views) other
+
+    by : (t : Bool) → (cond t (record { service = service_made m r q; table = noting r.table (line_of m r i q); views = views_made r q; place = r.place }) r).views ≡ r.views
+    by true = made
+    by false = refl
+
+none_more : (a b : Bool) → not (a || b) ≡ true → (a ≡ false) × (not b ≡ true)
+none_more true b is = absurd (cc)
+none_more false b is = (refl, is)
 
 -- a line of the later requests is of the requests
 of_later : {S : Type 0} (m : Meaning S) (r : Replica S) (i : ℕ) (q : SignedBy Request) (qs : Batch) (l : Execution) → OfRequest (execute m r i q.statement) (i + 1) qs l → OfRequest r i (q ∷ qs) l
@@ -83,7 +105,7 @@ of_later m r i q qs l is = record {
   step = suc is.step;
   at_place = is.at_place ∙ place_execute m r i q.statement;
   at_index = omega (arith, is.at_index);
-  in_view = is.in_view ∙ ap (λ (vs : List View). (present vs).number) (views_execute m r i q.statement);
+  in_view = λ none. let parts = none_more (is_managers q) (list_any is_managers (take is.step qs)) none in is.in_view parts.1 ∙ ap (λ (vs : List View). (present vs).number) (views_other m r i q.statement parts.0);
   there = is.there;
   own_client = is.own_client;
   own_seq = is.own_seq;
@@ -108,11 +130,36 @@ record OfBatch {S : Type 0} (m : Meaning S) (r : Replica S) (list : List Batch) 
   request : SignedBy Request
   step : ℕ
   at_place : l.place ≡ r.place + suc step
-  in_view : l.view ≡ (present (after_batches m r (take step list)).views).number
+  in_view : is_alone batch ≡ true → l.view ≡ (present (after_batches m r (take step list)).views).number
   batch_there : slice_get list step ≡ Some batch
   there : slice_get batch l.index ≡ Some request
   own_client : request.statement.client ≡ l.client
   own_seq : request.statement.seq ≡ l.seq
+
+-- a part of a batch without requests of the view manager has none
+none_with : (a b : Bool) → a ≡ false → not b ≡ true → not (a || b) ≡ true
+none_with true b isnt is = absurd (cc)
+none_with false b isnt is = is
+
+fewer_managers : (n : ℕ) (xs : Batch) → not (list_any is_managers xs) ≡ true → not (list_any is_managers (take n xs)) ≡ true
+fewer_managers zero xs is = refl
+fewer_managers (suc n) [] is = refl
+fewer_managers (suc n) (x ∷ xs) is =
+    let parts = none_more (is_managers x) (list_any is_managers xs) is in
+    none_with (is_managers x) (list_any is_managers (take n xs)) parts.0 (fewer_managers n xs parts.1)
+
+second_of : (a b : Bool) → (a ≡ true → ⊥) → (a || b) ≡ true → b ≡ true
+second_of true b isnt is = absurd (isnt refl)
+second_of false b isnt is = is
+
+-- where a request of the view manager stands alone, none is before another request
+none_before : (batch : Batch) (step : ℕ) (q : SignedBy Request) → is_alone batch ≡ true → slice_get batch step ≡ Some q → not (list_any is_managers (take step batch)) ≡ true
+none_before batch zero q alone at = refl
+none_before [] (suc k) q alone at = absurd (cc)
+none_before (p ∷ []) (suc k) q alone at = absurd (cc)
+none_before (p ∷ o ∷ ps) (suc k) q alone at =
+    fewer_managers (suc k) (p ∷ o ∷ ps)
+    (second_of (nat_le (length (p ∷ o ∷ ps)) 1) (not (list_any is_managers (p ∷ o ∷ ps))) (λ short. let few = leb-true (length (p ∷ o ∷ ps)) 1 short in omega (arith, few)) alone)
 
 -- a line of the first batch
 batch_here : {S : Type 0} (m : Meaning S) (r : Replica S) (batch : Batch) (list : List Batch) (l : Execution) → OfRequest (at_next r) 0 batch l → OfBatch m r (batch ∷ list) l
@@ -123,7 +170,7 @@ batch_here m r batch list l is =
       request = is.request;
       step = 0;
       at_place = omega (arith, is.at_place);
-      in_view = is.in_view;
+      in_view = λ alone. is.in_view (none_before batch is.step is.request alone is.there);
       batch_there = refl;
       there = ap (slice_get batch) index ∙ is.there;
       own_client = is.own_client;
@@ -181,11 +228,17 @@ request-line m v list l has =
       seq = is.own_seq;
     }
 
--- a line states the view in force at its place
-pub view-line : {S : Type 0} (m : Meaning S) (v : View) (list : List Batch) (l : Execution) → HasLine (executions m v list) l → l.view ≡ (view_at v list l.place).number
-view-line m v list l has =
+-- what holds of each batch holds of the one at an index
+each_get : (P : Batch → Type 0) (list : List Batch) (k : ℕ) (batch : Batch) → Each P list → slice_get list k ≡ Some batch → P batch
+each_get P [] k batch each at = absurd (cc)
+each_get P (b ∷ list) zero batch each at = let same : b ≡ batch = cc in subst P same each.0
+each_get P (b ∷ list) (suc k) batch each at = each_get P list k batch each.1 at
+
+-- a line states the view in force at its place, also where its request begins another one
+pub view-line : {S : Type 0} (m : Meaning S) (v : View) (list : List Batch) (l : Execution) → Each (λ (b : Batch). is_alone b ≡ true) list → HasLine (executions m v list) l → l.view ≡ (view_at v list l.place).number
+view-line m v list l alone has =
     let is = of_line m v list l has in
     let behind : is.step ≡ l.place - 1 = omega (arith, is.at_place) in
-    is.in_view
+    is.in_view (each_get (λ (b : Batch). is_alone b ≡ true) list is.step is.batch alone is.batch_there)
     ∙ (ap (λ (vs : List View). (present vs).number) (state_views m v (take is.step list))
     ∙ ap (λ (k : ℕ). (present (views_after v (take k list))).number) behind)

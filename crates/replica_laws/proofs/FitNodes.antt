@@ -17,7 +17,7 @@ use Rattle.smart_statements.specs.Spelling as spells
 use Rattle.smart_statements.specs.Spelling.{FitsSlot, FitsBallot, FitsRequest, IsSigner, FitsSigned}
 use Rattle.smart_statements.specs.SignedLists.{optional, FitsOptional}
 use Rattle.smart_statements.specs.Reports.{reports, marks, votes_of, FitsVote, FitsMark, FitsReport}
-use Rattle.smart_messages.specs.Regencies.{stops, syncs, FitsSync}
+use Rattle.smart_messages.specs.Regencies.{stops, syncs, view_infos, FitsSync}
 use Rattle.smart_messages.specs.Messages.{spelling, kind, Fits, decoded}
 use Rattle.smart_messages.proofs.Messages.{decoded_is}
 use Rattle.smart_base.specs.Cuts.{IsBytes}
@@ -53,8 +53,8 @@ use Rattle.replica_rules.specs.Seals.{is_verified, signed, digest_of, is_manager
 use Rattle.replica_rules.specs.Replicas.{is_next, line_of, execute, line_made, lines_of, at_next, delivered, executed_lines}
 use Rattle.node_rules.specs.Votes.{is_vote, has_vote, certificate, Named, vote_for, first_vote, certificate_votes, proposed_in, proposed_for, named_in, named_by, known, decision_by, accepted_under}
 use Rattle.replica_rules.specs.Pools.{offered, settled, is_within as is_within_limits, filled, batch_of, gathered}
-use Rattle.node_rules.specs.Rules.{reply_of, replying, lines_to_answer, deliver_batch, delivers, batch_under, proposing, propose_batch, proposes, ballot, votable, writing, write_batch, writes, written, accepting, accept_batch, accepts, slot_in, decision_in, decision_ahead, deciding, decide_batch, decides, answering, answer_line, answers_again, decision_shown, first_votes, has_signed, shown_next}
-use Rattle.node_rules.specs.Nodes.{Node, view_of, regency_of, regency_in, greatest_regency, start_of, next_place, open_slot, is_free, is_open, bound_at, synchronizer_of, holding, recording, decided_place, holding_all}
+use Rattle.node_rules.specs.Rules.{reply_of, replying, lines_to_answer, deliver_batch, delivers, batch_under, proposing, propose_batch, proposes, ballot, votable, writing, write_batch, writes, written, accepting, accept_batch, accepts, slot_in, decision_in, decision_ahead, deciding, decide_batch, decides, replies_with, answering, answer_line, answers_again, decision_shown, first_votes, has_signed, shown_next}
+use Rattle.node_rules.specs.Nodes.{Node, view_of, regency_of, regency_in, greatest_regency, start_of, next_place, open_slot, is_free, is_open, bound_at, synchronizer_of, holding, recording, decided_place, holding_all, entered, enters, stays_in_view, telling, view_told}
 use Rattle.node_rules.specs.Arrivals.{signer_why, view_why, regency_why, bears_lock, is_batch_for, is_proven, why_report, why_dropped, kept, noted, is_proven_batch, regency_by, why_decision, why_mark, why_vote}
 use Rattle.node_rules.specs.Changes.{start_by_sync, promised_for, adopts_by, is_adoptable, adoption, adopts, stop_for, asks_next, joining, joins, report_of, reported_by, next_promise, promising, promise_next, promises, leading, lead_with, leads, is_pressed, timing, passes_on, presses, times, asks_state, lags, state_ask}
 use Rattle.node_rules.specs.Steps.{step_of, takes_in, released, opened, outset}
@@ -65,11 +65,11 @@ use Rattle.node_rules.specs.declared.node.OwnSnapshot.{OwnSnapshot}
 use Rattle.node_rules.specs.declared.node.Target.{Target}
 use Rattle.node_rules.specs.declared.node.Target.TheVariants as targets
 use Rattle.replica_laws.proofs.Lists.{each_given, if_weaker, if_or, if_cond, if_map, if_find, if_found, third-none}
-use Rattle.replica_laws.proofs.Entered.{IsQuiet, quiet-wrote, quiet-accepted, quiet-decided, quiet-installed, quiet-marked, regency-quiet}
+use Rattle.replica_laws.proofs.Entered.{IsQuiet, quiet-wrote, quiet-accepted, quiet-decided, quiet-installed, quiet-marked}
 use Rattle.replica_laws.proofs.Checked.{for_batch-weaker, for_batch-or, each_offered, verified_where_signed, valid_where_kept, fits_where_valid, fits_each, greater-if, votable-if, written-if}
 use Rattle.certificates.specs.Collects.{evidence_holds, has_no_false_lock}
 use Rattle.replica_laws.proofs.Collected.{report-short}
-use Rattle.replica_laws.proofs.Genuine.{IsGood, good-genuine, AreVerified, FitVotes, FitEvidence, FitLock, FitReport, FitsSome, FitsCollected, digest_of-length, ask-good, vote-good, reply-good, mark-good, propose-good, stop-good, report-good, sync-good, single-fits, single-verified, longer-fits, longer-verified, FitMarks, ask_state-good, decision-good, offer-good, part-good, signed-fits, signed-verified}
+use Rattle.replica_laws.proofs.Genuine.{IsGood, good-genuine, AreVerified, FitVotes, FitEvidence, FitLock, FitReport, FitsSome, FitsCollected, digest_of-length, ask-good, vote-good, reply-good, told-good, mark-good, propose-good, stop-good, report-good, sync-good, single-fits, single-verified, longer-fits, longer-verified, FitMarks, ask_state-good, decision-good, offer-good, part-good, signed-fits, signed-verified}
 use Rattle.replica_laws.proofs.Again.{ForLine, answering-each, each-delivered}
 use Rattle.replica_laws.proofs.Replying.{place-delivers}
 use Rattle.smart_keys.proofs.Digests.{digest-length}
@@ -86,14 +86,15 @@ use Rattle.node_laws.proofs.Certified.{same_kind_is}
 use Rattle.node_laws.proofs.Passes.{each_staying}
 use Rattle.node_laws.proofs.Books.{greatest_push}
 use Rattle.node_laws.proofs.Arriving.{ask_tagged, proven_is}
-use Rattle.replica_rules.proofs.Places.{views_execute, views_delivered, place_execute}
-use Rattle.replica_rules.proofs.Coming.{valid_execute, valid_delivered}
+use Rattle.replica_rules.proofs.Managed.{AtMostOne, delivered_one, fits_alone}
+use Rattle.replica_rules.proofs.Places.{place_execute}
+use Rattle.replica_rules.proofs.Coming.{valid_delivered}
 use Rattle.node_rules.proofs.Options.{else_none, no_reason}
 use Rattle.node_rules.specs.declared.node.Asked.{Asked}
-use Rattle.node_laws.proofs.Installing.{IsReady, each_drop, installing_is, views_equal}
+use Rattle.node_laws.proofs.Installing.{IsReady, each_drop, installing_is}
 use Rattle.node_laws.proofs.Planning.{IsTakenFrom, all_each_mark, finished_from, plan_each, plan_few}
-use Rattle.node_rules.specs.Transfers.{answers_state, decided_at, decides_at, follow_plan, gives_parts, install_by, install_fetch, install_replica, installed_by, installing, installs, is_of_group, is_other_offer, is_shown_place, last_few, made_of, mark_made, marks_past, offer_for, offers_state, part_messages, place_of_snapshot, places_after, planning, plans, shown_after, shown_as, shown_at, size_of_snapshot, spoil}
-use Rattle.replica_laws.proofs.Small.{IsBrief, IsSmall, IsSmallLine, each_kept, restored_text, short_small, small-delivered, small-restored}
+use Rattle.node_rules.specs.Transfers.{answers_state, decided_at, decides_at, follow_plan, gives_parts, go_on, install_by, install_fetch, install_replica, installed_by, installing, installs, is_of_group, is_other_offer, is_shown_place, last_few, made_of, mark_made, marks_past, offer_for, offers_state, part_messages, place_of_snapshot, places_after, planning, plans, shown_after, shown_as, shown_at, size_of_snapshot, spoil}
+use Rattle.replica_laws.proofs.Small.{IsBrief, IsSmall, IsSmallLine, each_kept, present_end, present_low, restored_text, short_small, small-delivered, small-execute, small-next, small-reply, small-restored}
 use Rattle.smart_base.specs.Bytes.{bytes-after}
 use Rattle.smart_service.specs.declared.table.TableLine.{TableLine}
 use Rattle.smart_statements.specs.ReportLaws.{mark_small}
@@ -255,7 +256,7 @@ pub record FitNode {S : Type 0} (m : Meaning S) (secret : List ℕ) (n : Node S)
   pub shared : n.secret ≡ secret
   pub view : is_view (view_of n) ≡ true
   pub views : Each (λ v. is_view v ≡ true) n.replica.views
-  pub regency : regency_of n < 2 ^ 32
+  pub regency : (view : ℕ) → greatest_regency view n.entries < 2 ^ 32
   pub lines : Each FitsLine (kept_in n.replica.table)
   pub pool : Each (FitsPool secret) n.pool
   pub arrivals : Each (FitsArrival secret) n.arrivals
@@ -279,6 +280,11 @@ view-low v is =
     let f = and_true _ _ e.0 in
     let low = leb-true v.number 1023 f.0 in
     omega (arith, low)
+
+-- the regency in force
+pub force-low : {S : Type 0} {m : Meaning S} (secret : List ℕ) (n : Node S) → FitNode m secret n → regency_of n < 2 ^ 32
+unfolding regency_of
+force-low secret n is = is.regency (view_of n).number
 
 -- ---- messages that wait to leave, and entries
 
@@ -328,7 +334,7 @@ fit-holding secret n to message good is =
     }
 
 -- entries are recorded
-fit-book : {S : Type 0} {m : Meaning S} (secret : List ℕ) (n : Node S) (more : List LogEntry) → regency_of (record n { entries = n.entries ++ more }) < 2 ^ 32 → Each (FitsEntry secret) more → FitNode m secret n
+fit-book : {S : Type 0} {m : Meaning S} (secret : List ℕ) (n : Node S) (more : List LogEntry) → ((view : ℕ) → greatest_regency view (n.entries ++ more) < 2 ^ 32) → Each (FitsEntry secret) more → FitNode m secret n
     → FitNode m secret (record n { entries = n.entries ++ more })
 fit-book secret n more regency fit is =
     record {
@@ -350,7 +356,7 @@ fit-book secret n more regency fit is =
     }
 
 fit-recording : {S : Type 0} {m : Meaning S} (secret : List ℕ) (n : Node S) (e : LogEntry) → IsQuiet e → FitsEntry secret e → FitNode m secret n → FitNode m secret (recording n e)
-fit-recording secret n e quiet fit is = fit-book secret n (e ∷ []) (let low = is.regency in let same = regency-quiet n e quiet in omega (arith, same, low)) (fit, tt) is
+fit-recording secret n e quiet fit is = fit-book secret n (e ∷ []) (λ view. let low = is.regency view in let grown = greatest_push view n.entries e in let none = quiet.no_promise view in omega (arith, grown, none, low)) (fit, tt) is
 
 -- a reply has a spelling
 line-good : (secret own : List ℕ) (id : ℕ) (line : Execution) → own ≡ secret → IsSigner 1 id → FitsLine line → IsGood secret (reply_of own id line)
@@ -365,6 +371,14 @@ fit-replying secret n [] each is = is
 fit-replying secret n (l ∷ ls) each is =
     fit-replying secret (holding n (targets.Client l.client) (reply_of n.secret n.id l)) ls each.1
     (fit-holding secret n (targets.Client l.client) (reply_of n.secret n.id l) (line-good secret n.secret n.id l is.shared is.named each.0) is)
+
+-- a view that is told
+fit-telling : {S : Type 0} {m : Meaning S} (secret : List ℕ) (n : Node S) (known : Bool) (to : Target) → FitNode m secret n → FitNode m secret (telling known to n)
+fit-telling secret n true to is = is
+fit-telling secret n false to is =
+    fit-holding secret n to (view_told n)
+    (subst (λ (s : List ℕ). IsGood secret (changes.ViewTold (signed view_infos s n.id (record { view = view_of n })))) (sym is.shared)
+    (told-good secret n.id (record { view = view_of n }) is.named is.view)) is
 
 -- ---- arrivals
 
@@ -391,8 +405,9 @@ clients_each secret place (q ∷ qs) all =
 
 known_where_valid : (secret : List ℕ) (place : ℕ) (digest : List ℕ) (batch : Batch) → is_batch_for secret place digest batch ≡ true → FitsBatch batch → FitsKnown secret batch
 known_where_valid secret place digest batch valid fit =
-    let each = fits_each secret batch place (fits_where_valid secret place digest batch valid) in
-    ((fit, clients_each secret place batch each), verified_each secret place batch each)
+    let fine = fits_where_valid secret place digest batch valid in
+    let each = fits_each secret batch place fine in
+    ((fit, clients_each secret place batch each, fits_alone secret batch place fine), verified_each secret place batch each)
 
 verified_where_valid : (secret : List ℕ) (place : ℕ) (digest : List ℕ) (batch : Batch) → is_batch_for secret place digest batch ≡ true → AreVerified secret batch
 verified_where_valid secret place digest batch valid = verified_each secret place batch (fits_each secret batch place (fits_where_valid secret place digest batch valid))
@@ -727,7 +742,8 @@ fit-answer_line : {S : Type 0} {m : Meaning S} (secret : List ℕ) (n : Node S) 
 unfolding answer_line
 fit-answer_line secret n None fit is = is
 fit-answer_line secret n (Some line) fit is =
-    fit-holding secret n (targets.Client line.client) (reply_of n.secret n.id line) (line-good secret n.secret n.id line is.shared is.named fit) is
+    fit-telling secret (replies_with n line) (nat_le (length n.replica.views) 1) (targets.Client line.client)
+    (fit-holding secret n (targets.Client line.client) (reply_of n.secret n.id line) (line-good secret n.secret n.id line is.shared is.named fit) is)
 
 pub fit-answers_again : {S : Type 0} {m : Meaning S} (secret : List ℕ) (n : Node S) (asked : Asked) → FitNode m secret n → FitNode m secret (answers_again n asked)
 unfolding answers_again
@@ -736,68 +752,89 @@ fit-answers_again secret n asked is = fit-answer_line secret n (answering n aske
 -- ---- deliver
 
 -- the line of a request that is executed
-line_made-fits : {S : Type 0} (m : Meaning S) → IsBrief m → (r : Replica S) (index : ℕ) (q : SignedBy Request) → (present r.views).number < 2 ^ 32 → IsCount r.place → index < 2 ^ 16 → Comes m r.service
-    → FitsSigned requests FitsRequest q → Each FitsLine (option_to_list (line_made m r index q.statement))
-line_made-fits m brief r index q view place low come fit =
+line_made-fits : {S : Type 0} (m : Meaning S) → IsBrief m → (r : Replica S) (index : ℕ) (q : SignedBy Request) → IsSmall m r → 1 ≤ r.place → index < 2 ^ 16 → FitsSigned requests FitsRequest q
+    → Each FitsLine (option_to_list (line_made m r index q.statement))
+line_made-fits m brief r index q small some low fit =
+    let number = present_low r.views small.views_fit in
     either (λ (line : Option Execution). Each FitsLine (option_to_list line)) (is_next r.table q.statement) (Some (line_of m r index q.statement)) None (
       record {
-        view = view;
-        place = place;
+        view = omega (arith, number);
+        place = (some, small.place_fits);
         index = low;
         client = fit.statement_fits.client_fits;
         seq = fit.statement_fits.seq_fits;
-        reply = brief.brief r.service q.statement.op come;
+        reply = small-reply m brief r q.statement small.service_fits;
       },
       tt,
     ) tt
 
 -- the lines of the requests that are
-pub lines_of-fit : {S : Type 0} (m : Meaning S) → IsBrief m → (r : Replica S) (index : ℕ) (qs : Batch) → (present r.views).number < 2 ^ 32 → IsCount r.place → index + length qs ≤ 64 → Comes m r.service
+lines_of-fit : {S : Type 0} (m : Meaning S) → IsBrief m → (r : Replica S) (index : ℕ) (qs : Batch) → IsSmall m r → 1 ≤ r.place → index + length qs ≤ 64 → Each (λ q. q.statement.client ≤ 1024) qs
     → AllByRecursion (FitsSigned requests FitsRequest) qs → Each FitsLine (lines_of m r index qs)
-lines_of-fit m brief r index [] view place few come all = tt
-lines_of-fit m brief r index (q ∷ qs) view place few come all =
+lines_of-fit m brief r index [] small some few known all = tt
+lines_of-fit m brief r index (q ∷ qs) small some few known all =
+    let place = place_execute m r index q.statement in
     each_append FitsLine (option_to_list (line_made m r index q.statement)) (lines_of m (execute m r index q.statement) (index + 1) qs)
-    (line_made-fits m brief r index q view place (omega (arith, few)) come all.0)
+    (line_made-fits m brief r index q small some (omega (arith, few)) all.0)
     (lines_of-fit m brief (execute m r index q.statement) (index + 1) qs
-    (rw (views_execute m r index q.statement) view) (rw (place_execute m r index q.statement) place) (omega (arith, few))
-    (valid_execute m (Comes m) comes_next r index q.statement come) all.1)
+    (small-execute m brief r index q.statement some (omega (arith, few)) known.0 all.0.statement_fits.seq_fits small) (omega (arith, some, place)) (omega (arith, few)) known.1 all.1)
 
 -- the lines of a batch
-executed_lines-fit : {S : Type 0} (m : Meaning S) → IsBrief m → (n : Node S) (batch : Batch) → (view_of n).number < 2 ^ 32 → FitsWaiting (next_place n) batch → Comes m n.replica.service
-    → Each FitsLine (executed_lines m n.replica batch)
+executed_lines-fit : {S : Type 0} (m : Meaning S) → IsBrief m → (n : Node S) (batch : Batch) → FitsWaiting (next_place n) batch → IsSmall m n.replica → Each FitsLine (executed_lines m n.replica batch)
 unfolding executed_lines
-executed_lines-fit m brief n batch view fit come =
-    lines_of-fit m brief (at_next n.replica) 0 batch view (omega arith, fit.1) (let few = fit.0.0.count_fits.1 in omega (arith, few)) come fit.0.0.each_fits
+executed_lines-fit m brief n batch fit small =
+    lines_of-fit m brief (at_next n.replica) 0 batch (small-next m n.replica fit.1 small) (omega arith) (let few = fit.0.0.count_fits.1 in omega (arith, few)) fit.0.1 fit.0.0.each_fits
 
 -- the lines that a node answers with
-lines_to_answer-fit : {S : Type 0} (m : Meaning S) → IsBrief m → (n : Node S) (batch : Batch) → (view_of n).number < 2 ^ 32 → FitsWaiting (next_place n) batch → Comes m n.replica.service
-    → Each FitsLine (lines_to_answer m n batch)
-lines_to_answer-fit m brief n batch view fit come =
-    either (λ (lines : List Execution). Each FitsLine lines) (is_member (view_of n) n.id) (executed_lines m n.replica batch) [] (executed_lines-fit m brief n batch view fit come) tt
+lines_to_answer-fit : {S : Type 0} (m : Meaning S) → IsBrief m → (n : Node S) (batch : Batch) → FitsWaiting (next_place n) batch → IsSmall m n.replica → Each FitsLine (lines_to_answer m n batch)
+lines_to_answer-fit m brief n batch fit small =
+    either (λ (lines : List Execution). Each FitsLine lines) (is_member (view_of n) n.id) (executed_lines m n.replica batch) [] (executed_lines-fit m brief n batch fit small) tt
+
+-- the view in force after a batch
+view-one : (place : ℕ) (views more : List View) → place < 2 ^ 63 → is_view (present views) ≡ true → AtMostOne place views more → is_view (present more) ≡ true
+view-one place views more low is (inl same) = subst (λ (vs : List View). is_view (present vs) ≡ true) (sym same) is
+view-one place views more low is (inr one) =
+    subst (λ (v : View). is_view v ≡ true) (sym (ap present one.1 ∙ present_end views one.0)) (one.2.valid low)
+
+-- a node that is in a view, or that enters one
+fit-entered : {S : Type 0} {m : Meaning S} (secret : List ℕ) (stays : Bool) (n : Node S) → FitNode m secret n → FitNode m secret (entered stays n)
+fit-entered {S = S} secret stays n is =
+    record {
+      named = is.named;
+      shared = is.shared;
+      view = is.view;
+      views = is.views;
+      regency = is.regency;
+      lines = is.lines;
+      pool = is.pool;
+      arrivals = either (λ (xs : List Message). Each (FitsArrival secret) xs) stays n.arrivals [] is.arrivals tt;
+      told = either (λ (xs : List Reported). Each (FitsReported secret) xs) stays n.reports [] is.told tt;
+      begun = either (λ (xs : List (SignedBy Sync)). Each FitsBegun xs) stays n.syncs [] is.begun tt;
+      book = is.book;
+      waiting = is.waiting;
+      held = is.held;
+      service = is.service;
+      transfers = is.transfers;
+    }
 
 -- a batch is delivered
-delivered-view : {S : Type 0} (m : Meaning S) (r : Replica S) (batch : Batch) → present (delivered m r batch).views ≡ present r.views
-delivered-view m r batch = ap present (views_delivered m r batch)
-
-regency-view : (v w : View) (es : List LogEntry) → w ≡ v → greatest_regency v.number es < 2 ^ 32 → greatest_regency w.number es < 2 ^ 32
-regency-view v w es same low = subst (λ (x : View). greatest_regency x.number es < 2 ^ 32) (sym same) low
-
 fit-deliver_batch : {S : Type 0} (secret : List ℕ) (m : Meaning S) → IsBrief m → (n : Node S) (batch : Option Batch) → ForBatch batch (FitsWaiting (next_place n)) → FitNode m secret n → FitNode m secret (deliver_batch m n batch)
-unfolding deliver_batch regency_of
+unfolding deliver_batch
 fit-deliver_batch secret m brief n None fit is = is
-fit-deliver_batch secret m brief n (Some batch) fit is =
-    let low = view-low (view_of n) is.view in
-    fit-replying secret
-    (record n { replica = delivered m n.replica batch; waiting = None; pool = settled (delivered m n.replica batch).table n.pool; impatient = false })
-    (lines_to_answer m n batch)
-    (lines_to_answer-fit m brief n batch low fit is.service)
+fit-deliver_batch {S = S} secret m brief n (Some batch) fit is =
+    let x : Node S = record n { replica = delivered m n.replica batch; waiting = None; pool = settled (delivered m n.replica batch).table n.pool; impatient = false } in
+    let small = small-delivered m brief n.replica batch fit.1 fit.0 is.transfers.small in
+    let y : Node S = replying (enters n x) (lines_to_answer m n batch) in
+    fit-telling secret y (stays_in_view n y) targets.Clients
+    (fit-replying secret (enters n x) (lines_to_answer m n batch) (lines_to_answer-fit m brief n batch fit is.transfers.small)
+    (fit-entered secret (stays_in_view n x) x
     (record {
       named = is.named;
       shared = is.shared;
-      view = subst (λ (v : View). is_view v ≡ true) (sym (delivered-view m n.replica batch)) is.view;
-      views = subst (λ (vs : List View). Each (λ v. is_view v ≡ true) vs) (sym (views_delivered m n.replica batch)) is.views;
-      regency = regency-view (view_of n) (present (delivered m n.replica batch).views) n.entries (delivered-view m n.replica batch) is.regency;
-      lines = each-delivered FitsLine m n.replica batch is.lines (executed_lines-fit m brief n batch low fit is.service);
+      view = view-one (next_place n) n.replica.views (delivered m n.replica batch).views fit.1 is.view (delivered_one m n.replica batch fit.0.2);
+      views = small.views_fit;
+      regency = is.regency;
+      lines = each-delivered FitsLine m n.replica batch is.lines (executed_lines-fit m brief n batch fit is.transfers.small);
       pool = each_filter (FitsPool secret) (λ q. is_next (delivered m n.replica batch).table q.statement) n.pool is.pool;
       arrivals = is.arrivals;
       told = is.told;
@@ -807,14 +844,14 @@ fit-deliver_batch secret m brief n (Some batch) fit is =
       held = is.held;
       service = valid_delivered m (Comes m) comes_next n.replica batch is.service;
       transfers = record {
-        small = small-delivered m brief n.replica batch low fit.1 fit.0 is.transfers.small;
+        small = small;
         owned = is.transfers.owned;
         shown_fit = is.transfers.shown_fit;
         offers_fit = is.transfers.offers_fit;
         table_fits = is.transfers.table_fits;
         fetch_fits = is.transfers.fetch_fits;
       };
-    })
+    })))
 
 pub fit-delivers : {S : Type 0} (secret : List ℕ) (m : Meaning S) → IsBrief m → (n : Node S) → FitNode m secret n → FitNode m secret (delivers m n)
 unfolding delivers
@@ -934,11 +971,9 @@ unfolding joins
 fit-joins {S = S} {m = m} secret n is = either_by (λ (x : Node S). FitNode m secret x) (joining n) (asks_next n) n (λ due. asks-fit secret n (joining-low n due) is) (λ not_due. is)
 
 -- a beginning is adopted
-adopted-low : {S : Type 0} (n : Node S) (s : Sync) → regency_of n < 2 ^ 32 → s.regency < 2 ^ 32
-    → greatest_regency (view_of n).number (n.entries ++ promised_for n s ++ entries.Synced (start_by_sync s) ∷ []) < 2 ^ 32
-unfolding regency_of
-adopted-low n s low begun =
-    let v = (view_of n).number in
+adopted-low : {S : Type 0} (n : Node S) (s : Sync) (v : ℕ) → greatest_regency v n.entries < 2 ^ 32 → s.regency < 2 ^ 32
+    → greatest_regency v (n.entries ++ promised_for n s ++ entries.Synced (start_by_sync s) ∷ []) < 2 ^ 32
+adopted-low n s v low begun =
     let last = greatest_push v (n.entries ++ promised_for n s) (entries.Synced (start_by_sync s)) in
     let first : greatest_regency v (n.entries ++ promised_for n s) < 2 ^ 32 =
     either (λ (es : List LogEntry). greatest_regency v (n.entries ++ es) < 2 ^ 32) (nat_lt (regency_of n) s.regency) _ []
@@ -960,7 +995,7 @@ fit-adopts_by secret n (Some sync) begun is =
       shared = is.shared;
       view = is.view;
       views = is.views;
-      regency = adopted-low n sync.statement is.regency begun.regency_fits;
+      regency = λ view. adopted-low n sync.statement view (is.regency view) begun.regency_fits;
       lines = is.lines;
       pool = is.pool;
       arrivals = is.arrivals;
@@ -1086,13 +1121,12 @@ unfolding promising is_promising
 promising-low n is = ltb-true (regency_of n + 1) (2 ^ 32) (and_true (has_next (synchronizer_of n)) _ is).0
 
 fit-promised : {S : Type 0} {m : Meaning S} (secret : List ℕ) (n : Node S) → regency_of n + 1 < 2 ^ 32 → FitNode m secret n → FitNode m secret (recording n (entries.Promised (next_promise n)))
-unfolding regency_of
 fit-promised secret n low is =
     fit-book secret n (entries.Promised (next_promise n) ∷ [])
-    (let v = (view_of n).number in
-    let grown = greatest_push v n.entries (entries.Promised (next_promise n)) in
-    let own = promise-low v v (regency_of n + 1) (v == v) refl low in
-    let old = is.regency in
+    (λ view. let v = (view_of n).number in
+    let grown = greatest_push view n.entries (entries.Promised (next_promise n)) in
+    let own = promise-low view v (regency_of n + 1) (v == view) refl low in
+    let old = is.regency view in
     omega (arith, grown, own, old)) (tt, tt) is
 
 fit-promise_next : {S : Type 0} {m : Meaning S} (secret : List ℕ) (n : Node S) → regency_of n + 1 < 2 ^ 32 → FitNode m secret n → FitNode m secret (promise_next n)
@@ -1142,7 +1176,7 @@ fit-lead_with {S = S} secret n (Some collected) fit is =
     let x : Node S = record n { sync_made = true } in
     fit-holding secret x targets.View (changes.Sync (signed syncs n.secret n.id (record { view = (view_of n).number; regency = regency_of n; collect = collected })))
     (subst (λ (s : List ℕ). IsGood secret (changes.Sync (signed syncs s n.id (record { view = (view_of n).number; regency = regency_of n; collect = collected })))) (sym is.shared)
-    (sync-good secret n.id (record { view = (view_of n).number; regency = regency_of n; collect = collected }) is.named (view-low (view_of n) is.view) is.regency fit.few fit.each))
+    (sync-good secret n.id (record { view = (view_of n).number; regency = regency_of n; collect = collected }) is.named (view-low (view_of n) is.view) (force-low secret n is) fit.few fit.each))
     (fit-as secret n n.firm n.proposed n.stop_made true n.impatient n.behind is)
 
 pub fit-leads : {S : Type 0} {m : Meaning S} (secret : List ℕ) (n : Node S) → FitNode m secret n → FitNode m secret (leads n)
@@ -1238,7 +1272,7 @@ open-low n is = free-low n (and_true (is_member (view_of n) n.id) (is_free n) (a
 
 -- the slot that is open has a spelling
 pub open-fits : {S : Type 0} {m : Meaning S} (secret : List ℕ) (n : Node S) → FitNode m secret n → next_place n < 2 ^ 63 → FitsSlot (open_slot n)
-open-fits secret n is low = record { view_fits = view-low (view_of n) is.view; place_fits = (omega arith, low); regency_fits = is.regency }
+open-fits secret n is low = record { view_fits = view-low (view_of n) is.view; place_fits = (omega arith, low); regency_fits = force-low secret n is }
 
 -- what fits is filled with what the limits leave room for
 filled-fits : (secret : List ℕ) (batch qs : Batch) → FitsSending secret batch → Each (FitsPool secret) qs → FitsSending secret (filled batch qs)
@@ -1392,7 +1426,7 @@ fit-accept_batch secret n (Some p) fit is =
     }) in
     fit-holding secret (recording n entry) targets.View (ballot n Accept p.head.statement.digest) (ballot-good secret n Accept p.head.statement.digest fit.low fit.digest_fits is)
     (fit-recording secret n entry (quiet-accepted _) (record {
-      regency_fits = is.regency;
+      regency_fits = force-low secret n is;
       digest_fits = fit.digest_fits;
       writes_fit = certificate-fits secret n.arrivals (view_of n) Write (open_slot n) p.head.statement.digest is.view is.arrivals;
       batch_fits = fit.batch_fits;
@@ -1483,7 +1517,7 @@ deciding-fits secret n is =
     (if_map P (decision_shown n) (shown_next n)
     (if_weaker (FitsShown secret) (λ d. P (decision_shown n d)) (λ d fit. decision_shown-fits secret n d is fit) (shown_next n)
     (if_find (FitsShown secret) (λ (d : ProvenBatch). d.place == next_place n) n.decisions is.transfers.shown_fit)))
-    (if_or P (decision_in n (regency_of n)) (decision_ahead n) (decision_in-fits secret n (regency_of n) low is.regency is)
+    (if_or P (decision_in n (regency_of n)) (decision_ahead n) (decision_in-fits secret n (regency_of n) low (force-low secret n is) is)
     (if_cond P (nat_lt (regency_of n + 1) (2 ^ 32)) (decision_in n (regency_of n + 1))
     (λ room. decision_in-fits secret n (regency_of n + 1) low (ltb-true (regency_of n + 1) (2 ^ 32) room) is)))))
 
@@ -1806,17 +1840,29 @@ fit-spoil secret n f is =
     fit-known secret n (filter (is_other_offer f.plan) n.offers) None n.behind
     (each_filter (λ (o : StateOffer). Each (FitsStated secret) o.marks) (is_other_offer f.plan) n.offers is.transfers.offers_fit) tt is
 
--- with another replica of the same views
-fit-replaced : {S : Type 0} {m : Meaning S} (secret : List ℕ) (n : Node S) (r : Replica S) (owned : List OwnSnapshot) → r.views ≡ n.replica.views → IsSmall m r → Each FitsSnapshot owned → ForBatch n.waiting (FitsWaiting (r.place + 1))
-    → FitNode m secret n → FitNode m secret (record n { replica = r; pool = settled r.table n.pool; fetch = None; taken = n.taken ++ owned })
-unfolding regency_of
-fit-replaced {S = S} {m = m} secret n r owned alike small fits waiting is =
-    record {
+-- the views of a replica of the group
+view-all : (vs : List View) (v : View) → Each (λ w. is_view w ≡ true) (v ∷ vs) → is_view (present (v ∷ vs)) ≡ true
+view-all [] v each = each.0
+view-all (w ∷ vs) v each = view-all vs w each.1
+
+view-group : (place : ℕ) (views more : List View) → is_view (present views) ≡ true → go_on place views more ≡ true → Each (λ w. is_view w ≡ true) more → is_view (present more) ≡ true
+unfolding is_view
+view-group place [] more is on each = absurd (cc)
+view-group place (v ∷ views) [] is on each = absurd (cc)
+view-group place (v ∷ views) (w ∷ more) is on each = view-all more w each
+
+-- with another replica of the group
+fit-replaced : {S : Type 0} {m : Meaning S} (secret : List ℕ) (stays : Bool) (n : Node S) (r : Replica S) (owned : List OwnSnapshot) → is_view (present r.views) ≡ true → IsSmall m r → Each FitsSnapshot owned
+    → ForBatch n.waiting (FitsWaiting (r.place + 1)) → FitNode m secret n
+    → FitNode m secret (record (entered stays (record n { replica = r; pool = settled r.table n.pool; fetch = None })) { taken = n.taken ++ owned })
+fit-replaced {S = S} {m = m} secret stays n r owned viewed small fits waiting is =
+    let x : Node S = record n { replica = r; pool = settled r.table n.pool; fetch = None; taken = n.taken ++ owned } in
+    fit-entered secret stays x (record {
       named = is.named;
       shared = is.shared;
-      view = subst (λ (vs : List View). is_view (present vs) ≡ true) (sym alike) is.view;
+      view = viewed;
       views = small.views_fit;
-      regency = regency-view (view_of n) (present r.views) n.entries (ap present alike) is.regency;
+      regency = is.regency;
       lines = read-lines m r small;
       pool = each_filter (FitsPool secret) (λ q. is_next r.table q.statement) n.pool is.pool;
       arrivals = is.arrivals;
@@ -1835,7 +1881,7 @@ fit-replaced {S = S} {m = m} secret n r owned alike small fits waiting is =
         table_fits = is.transfers.table_fits;
         fetch_fits = tt;
       };
-    }
+    })
 
 none-waits : (place : ℕ) (waiting : Option Batch) → waiting ≡ None → ForBatch waiting (FitsWaiting place)
 none-waits place None free = tt
@@ -1875,8 +1921,11 @@ fit-install_replica {S = S} {m = m} secret brief n f r due takes of fit is =
     let x : Node S = recording n entry in
     let recorded = fit-recording secret n entry (quiet-installed _) (record { place_fits = fit.plan_fits.place_fits; digest_fits = fit.plan_fits.digest_fits; view_fits = fit.plan_fits.view_fits; marks_fit = fit.plan_fits.marks_fit }) is in
     let own : OwnSnapshot = record { place = f.plan.place; snapshot = joined_of f; needs = length x.entries } in
-    let installed = fit-replaced secret x r (own ∷ []) (views_equal n r of) small (record { place_fits = fit.plan_fits.place_fits; short = omega (arith, long, short) }, tt) (none-waits (r.place + 1) n.waiting due.free) recorded in
-    let y : Node S = record x { replica = r; pool = settled r.table n.pool; fetch = None; taken = n.taken ++ own ∷ [] } in
+    let viewed = view-group (next_place n) n.replica.views r.views is.view of small.views_fit in
+    let z : Node S = record x { replica = r; pool = settled r.table n.pool; fetch = None } in
+    let stays = stays_in_view n z in
+    let installed = fit-replaced secret stays x r (own ∷ []) viewed small (record { place_fits = fit.plan_fits.place_fits; short = omega (arith, long, short) }, tt) (none-waits (r.place + 1) n.waiting due.free) recorded in
+    let y : Node S = record (entered stays z) { taken = n.taken ++ own ∷ [] } in
     fit-holding secret y targets.View (state_ask y 0) (asked-good secret y 0 (omega arith) installed) installed
 
 fit-install_by : {S : Type 0} {m : Meaning S} (secret : List ℕ) → IsBrief m → (n : Node S) (f : Fetch) (made : Result (Replica S) Spoiled) → IsReady n f → are_all_there f ≡ true → Settles m n → finished m f ≡ made → FitsFetch f
@@ -1977,7 +2026,7 @@ fit-opened secret m id view period named is =
       shared = refl;
       view = is;
       views = (is, tt);
-      regency = omega arith;
+      regency = λ view. omega arith;
       lines = tt;
       pool = tt;
       arrivals = tt;

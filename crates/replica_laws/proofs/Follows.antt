@@ -18,7 +18,7 @@ use Rattle.node_rules.specs.Rules.{reply_of, replying, lines_to_answer, deliver_
 use Rattle.node_rules.specs.declared.node.Delivery.{Delivery}
 use Rattle.snapshot_form.specs.Snapshots.{snapshot_text}
 use Rattle.node_rules.specs.Marks.{mark_place, marking}
-use Rattle.node_rules.specs.Nodes.{Node, next_place, holding}
+use Rattle.node_rules.specs.Nodes.{Node, next_place, holding, enters}
 use Rattle.node_rules.specs.Arrivals.{noted}
 use Rattle.node_rules.specs.Changes.{fired_when, fired_adopt, adoption, adopts, joining, joins, next_promise, promising, promises, leading, leads, timing, times}
 use Rattle.node_rules.specs.Steps.{Taken, row, deliver_row, rules, pass, takes_in, step_of}
@@ -33,7 +33,7 @@ use Rattle.node_rules.specs.Reopening.{decided_of}
 use Rattle.node_laws.proofs.Restored.{decided_append}
 use Rattle.replica_laws.proofs.InOrder.{decided-adopts, decided-promises, decided-writes, decided-accepts, decided-mark}
 use Rattle.replica_laws.proofs.Leaves.{leaves-adopts, leaves-joins, leaves-promises, leaves-leads, leaves-proposes, leaves-writes, leaves-accepts, leaves-times, leaves-answers_again, leaves-answers_state, leaves-plans, leaves-noted, leaves-kept, leaves-mark}
-use Rattle.replica_laws.proofs.Installs.{takes-installs, decided-installs, installs-none, quiet-installs}
+use Rattle.replica_laws.proofs.Installs.{takes-installs, decided-installs, installs-none, one-delivery, quiet-installs}
 use Rattle.node_rules.specs.Transfers.{installs, answers_state, planning, plans, answers_call, answered_call}
 use Rattle.node_rules.specs.declared.node.Called.{Called}
 use Rattle.node_rules.specs.declared.node.Called.TheVariants as calls
@@ -61,7 +61,7 @@ unfolding deliver_batch
 follows-deliver_batch m n None = follows-same n
 follows-deliver_batch m n (Some batch) =
     follows-replying
-    (record n { replica = delivered m n.replica batch; waiting = None; pool = settled (delivered m n.replica batch).table n.pool; impatient = false })
+    (enters n (record n { replica = delivered m n.replica batch; waiting = None; pool = settled (delivered m n.replica batch).table n.pool; impatient = false }))
     (lines_to_answer m n batch)
 
 -- and the rule that delivers
@@ -262,7 +262,7 @@ due-as m n n' d same due = record { batch = rw (← same.waits) due.batch; place
 due-delivery : {S : Type 0} (m : Meaning S) (n : Node S) (batch : Option Batch) → n.waiting ≡ batch → Each (WasDue m n) (flat_map delivery_in (delivery m n batch))
 unfolding delivery
 due-delivery m n None at = tt
-due-delivery m n (Some batch) at = (record { batch = at; place = refl; executed = refl }, tt)
+due-delivery m n (Some batch) at = subst (λ (ds : List Delivery). Each (WasDue m n) ds) (sym (one-delivery m n batch)) (record { batch = at; place = refl; executed = refl }, tt)
 
 -- and a mark delivers nothing
 pub told-marked : (snapshot : List ℕ) (told : List Fired) (t : Bool) → flat_map delivery_in (told ++ fired_when (fires.Marked snapshot) t) ≡ flat_map delivery_in told

@@ -18,7 +18,7 @@ use Rattle.smart_statements.specs.Reports as spells_report
 use Rattle.smart_statements.specs.Reports.{reports, marks, votes_of, FitsVote, FitsMark, FitsReport, FitsEvidence, FitsLockCertificate}
 use Rattle.smart_statements.specs.ReportLaws.{mark_small}
 use Rattle.smart_messages.specs.Regencies as spells_change
-use Rattle.smart_messages.specs.Regencies.{stops, syncs, FitsStop, FitsSync, stop_small}
+use Rattle.smart_messages.specs.Regencies.{stops, syncs, view_infos, FitsStop, FitsSync, FitsViewInfo, stop_small, view_info_short, view_info_small}
 use Rattle.smart_messages.proofs.Messages.{spelling_is}
 use Rattle.smart_statements.specs.declared.statement.Request.{Request}
 use Rattle.smart_statements.specs.declared.statement.Proposal.{Proposal}
@@ -33,6 +33,7 @@ use Rattle.smart_statements.specs.declared.report.Mark.{Mark}
 use Rattle.smart_statements.specs.declared.report.Report.{Report}
 use Rattle.smart_messages.specs.declared.regency.Stop.{Stop}
 use Rattle.smart_messages.specs.declared.regency.Sync.{Sync}
+use Rattle.smart_messages.specs.declared.regency.ViewInfo.{ViewInfo}
 use Rattle.smart_messages.specs.declared.message.Message.TheVariants as changes
 use Rattle.smart_messages.specs.declared.message.Message.TheVariants.{Ask, Propose, Vote, Reply}
 use Rattle.smart_messages.specs.declared.message.Message.{Message}
@@ -113,6 +114,18 @@ reply-good secret id a named fit =
       fits = signed-fits answers (λ signer. FitsAnswer) secret id a named fit (answer_small a fit.reply_fits);
       short = λ terse. omega (arith, long, text, fit.reply_fits);
       tagged = signed-verified answers secret id a;
+    }
+
+-- a member's statement of a view
+pub told-good : (secret : List ℕ) (id : ℕ) (i : ViewInfo) → IsSigner 1 id → FitsViewInfo i → IsGood secret (changes.ViewTold (signed view_infos secret id i))
+unfolding spelling
+told-good secret id i named fit =
+    let long = tag-length view_infos secret id i in
+    let text = view_info_short i fit in
+    record {
+      fits = signed-fits view_infos (λ signer. FitsViewInfo) secret id i named fit (view_info_small i fit);
+      short = λ terse. omega (arith, long, text);
+      tagged = signed-verified view_infos secret id i;
     }
 
 -- a member's mark

@@ -15,7 +15,7 @@ use Rattle.replica_rules.specs.Pools.{settled}
 use Rattle.node_rules.specs.Rules.{reply_of, replying, lines_to_answer, deliver_batch, delivers, writing, write_batch, writes, accepting, accept_batch, accepts, deciding, decide_batch, decides}
 use Rattle.node_rules.specs.declared.node.Target.TheVariants as targets
 use Rattle.node_rules.specs.Marks.{mark_of, mark_place}
-use Rattle.node_rules.specs.Nodes.{Node, holding, open_slot}
+use Rattle.node_rules.specs.Nodes.{Node, holding, open_slot, enters}
 use Rattle.node_rules.specs.Changes.{adoption, adopts, next_promise, promising, promise_next, promises}
 use Rattle.node_rules.specs.Reopening.{decided_of}
 use Rattle.replica_laws.specs.Books.{DeliversInOrder}
@@ -123,7 +123,9 @@ in_order-deliver_batch {S = S} m base n (Some batch) at d =
     let here : n.replica.place ≡ base.place + d.count = d.place in
     let full : base.place + length ds ≡ n.replica.place + 1 = rw at at d.all in
     let taken : take (d.count + 1) ds ≡ take d.count ds ++ batch ∷ [] = take-next ds d.count batch (sym d.waiting ∙ at) in
-    in_order-replying m base (record n { replica = r; waiting = None; pool = settled r.table n.pool; impatient = false }) (lines_to_answer m n batch)
+    let x : Node S = enters n (record n { replica = r; waiting = None; pool = settled r.table n.pool; impatient = false }) in
+    let y : DeliversInOrder m base (replying x (lines_to_answer m n batch)) =
+    in_order-replying m base x (lines_to_answer m n batch)
     (record {
       count = d.count + 1;
       place = omega (arith, next, here);
@@ -131,7 +133,8 @@ in_order-deliver_batch {S = S} m base n (Some batch) at d =
           ∙ ap (λ (xs : List Batch). after_batches m base xs) (sym taken);
       waiting = sym (get-past ds (d.count + 1) (omega (arith, full, here)));
       all = full ∙ sym next;
-    })
+    }) in
+    record { count = y.count; place = y.place; replica = y.replica; waiting = y.waiting; all = y.all }
 
 -- the rule that delivers
 pub in_order-delivers : {S : Type 0} (m : Meaning S) (base : Replica S) (n : Node S) → DeliversInOrder m base n → DeliversInOrder m base (delivers m n)

@@ -1,6 +1,8 @@
 -- What the rule that installs leaves of a node, and what it adds to its book.
-use Rattle.std.proofs.Common.{◌≡◌, ⊎_elim, ◌⊎◌, inl, inr, ℕ, ◌++◌, subst, sym, Bool, true, false, cond, List, [], ◌∷◌, refl, ◌∙◌, Option, Some, None, is_some, Result, Ok, Err}
+use Rattle.std.proofs.Common.{◌≡◌, ⊎_elim, ◌⊎◌, inl, inr, ℕ, ◌==◌, ◌++◌, subst, sym, Bool, true, false, cond, List, [], ◌∷◌, length, refl, ap, ◌∙◌, Option, Some, None, is_some, Result, Ok, Err}
 use Rattle.std.specs.List.{flat_map}
+use Rattle.smart_base.specs.Views.{present}
+use Rattle.smart_statements.specs.Batches.{Batch}
 use Rattle.smart_service.specs.Services.{Meaning}
 use Rattle.smart_service.specs.declared.replica.Replica.{Replica}
 use Rattle.state_transfer.specs.Fetches.{finished}
@@ -9,11 +11,15 @@ use Rattle.state_transfer.specs.declared.fetch.Spoiled.{Spoiled}
 use Rattle.vote_book.specs.declared.entry.Installation.{Installation}
 use Rattle.vote_book.specs.declared.entry.LogEntry.{LogEntry}
 use Rattle.vote_book.specs.declared.entry.LogEntry.TheVariants.{Installed}
-use Rattle.node_rules.specs.Nodes.{Node}
+use Rattle.replica_rules.specs.Replicas.{delivered, executed_lines}
+use Rattle.node_rules.specs.Nodes.{Node, next_place}
+use Rattle.node_rules.specs.Rules.{begun_in, delivery}
 use Rattle.node_rules.specs.Reopening.{decided_of}
 use Rattle.node_rules.specs.Transfers.{installing, install_replica, is_of_group, spoil, install_by, install_fetch, install_told, installs}
 use Rattle.node_rules.specs.Deliveries.{delivery_in}
+use Rattle.node_rules.specs.declared.node.Delivery.{Delivery}
 use Rattle.node_rules.specs.declared.node.Fired.{Fired}
+use Rattle.node_rules.specs.declared.node.Fired.TheVariants as fires
 use Rattle.node_rules.proofs.Rulewise.{none_installs}
 use Rattle.node_laws.proofs.Restored.{decided_none}
 use Rattle.agreement_laws.proofs.Lists.{either}
@@ -82,14 +88,19 @@ pub installs-none : {S : Type 0} (m : Meaning S) (n : Node S) → is_some n.wait
 unfolding installs
 installs-none m n waits = fetched-none m n (installing n) (none_installs m n waits)
 
--- and it tells no delivery
-quiet_by : {S : Type 0} (n : Node S) (f : Fetch) (r : Replica S) (t : Bool) (one other : Fired) → delivery_in one ≡ [] → delivery_in other ≡ [] → flat_map delivery_in (cond t one other ∷ []) ≡ []
-quiet_by n f r true one other first second = rw first refl
-quiet_by n f r false one other first second = rw second refl
+-- a view that begins is no delivery
+pub quiet-begun : {S : Type 0} (r r' : Replica S) → flat_map delivery_in (begun_in r r') ≡ []
+quiet-begun r r' =
+    either (λ (fired : List Fired). flat_map delivery_in fired ≡ []) ((present r.views).number == (present r'.views).number) [] (fires.Viewed (present r'.views).number ∷ []) refl refl
+
+-- an installation tells no delivery
+quiet_by : {S : Type 0} (n : Node S) (place : ℕ) (r : Replica S) (t : Bool) → flat_map delivery_in (cond t (fires.Installed place ∷ begun_in n.replica r) (fires.Spoiled ∷ [])) ≡ []
+quiet_by n place r true = quiet-begun n.replica r
+quiet_by n place r false = refl
 
 quiet_made : {S : Type 0} (m : Meaning S) (n : Node S) (f : Fetch) (made : Result (Replica S) Spoiled) → finished m f ≡ made → flat_map delivery_in (install_told m n (Some f)) ≡ []
 unfolding install_told
-quiet_made m n f (Ok r) is = rw is (quiet_by n f r (is_of_group n r) _ _ refl refl)
+quiet_made m n f (Ok r) is = rw is (quiet_by n f.plan.place r (is_of_group n r))
 quiet_made m n f (Err why) is = rw is refl
 
 quiet_told : {S : Type 0} (m : Meaning S) (n : Node S) (due : Option Fetch) → flat_map delivery_in (install_told m n due) ≡ []
@@ -99,3 +110,11 @@ quiet_told m n (Some f) = quiet_made m n f (finished m f) refl
 
 pub quiet-installs : {S : Type 0} (m : Meaning S) (n : Node S) → flat_map delivery_in (install_told m n (installing n)) ≡ []
 quiet-installs m n = quiet_told m n (installing n)
+
+-- and the delivery of a batch tells one
+abbrev pub delivery_of : {S : Type 0} → Meaning S → Node S → Batch → Delivery
+delivery_of m n batch = record { place = next_place n; batch = batch; executed = length (executed_lines m n.replica batch) }
+
+pub one-delivery : {S : Type 0} (m : Meaning S) (n : Node S) (batch : Batch) → flat_map delivery_in (delivery m n (Some batch)) ≡ delivery_of m n batch ∷ []
+unfolding delivery
+one-delivery m n batch = ap (λ (ds : List Delivery). delivery_of m n batch ∷ ds) (quiet-begun n.replica (delivered m n.replica batch))

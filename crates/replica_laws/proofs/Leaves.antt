@@ -171,4 +171,5 @@ leaves-kept {S = S} n (Ask q) =
     (record { named = refl; shared = refl; opening_is = refl; restored_is = refl; firm_is = refl; replica_is = refl; waits = refl }) (leaves-same n)
 leaves-kept n (Reply a) = leaves-same n
 leaves-kept n (changes.StateAsk a) = leaves-same n
+leaves-kept n (changes.ViewTold i) = leaves-same n
 leaves-kept n _ = record { named = refl; shared = refl; opening_is = refl; restored_is = refl; firm_is = refl; replica_is = refl; waits = refl }

@@ -15,6 +15,7 @@ pub mod Counted
 pub mod Ordered
 pub mod Moves
 pub mod Waiting
+pub mod StartBy
 pub mod Onward
 pub mod Leaving
 pub mod Checked
@@ -28,6 +29,9 @@ pub mod MarkPlaces
 pub mod Sources
 pub mod Longer
 pub mod Telling
+pub mod ViewsTold
+pub mod Named
 pub mod Resumed
 pub mod Alone
+pub mod BookFronts
 pub mod Beginning

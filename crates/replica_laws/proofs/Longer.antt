@@ -17,7 +17,7 @@ use Rattle.replica_rules.specs.Pools.{settled}
 use Rattle.replica_rules.specs.Replicas.{delivered}
 use Rattle.node_rules.specs.Rules.{reply_of, replying, lines_to_answer, deliver_batch, delivers, proposes, writing, write_batch, writes, accepting, accept_batch, accepts, deciding, decide_batch, decides, answers_again}
 use Rattle.node_rules.specs.Marks.{mark_place}
-use Rattle.node_rules.specs.Nodes.{Node, holding}
+use Rattle.node_rules.specs.Nodes.{Node, holding, enters}
 use Rattle.node_rules.specs.Arrivals.{noted, kept}
 use Rattle.node_rules.specs.Changes.{adoption, adopts, joins, promising, promise_next, promises, leads, times}
 use Rattle.node_rules.specs.Steps.{made_firm, rules, pass, takes_in, step_of}
@@ -115,8 +115,10 @@ longer-deliver_batch : {S : Type 0} (m : Meaning S) (a n : Node S) (batch : Opti
 unfolding deliver_batch
 longer-deliver_batch m a n None is = is
 longer-deliver_batch m a n (Some batch) is =
-    longer-replying a (record n { replica = delivered m n.replica batch; waiting = None; pool = settled (delivered m n.replica batch).table n.pool; impatient = false }) (lines_to_answer m n batch)
-    (record { named = is.named; shared = is.shared; opening_is = is.opening_is; restored_is = is.restored_is; firm_is = is.firm_is; book = is.book })
+    let x =
+    longer-replying a (enters n (record n { replica = delivered m n.replica batch; waiting = None; pool = settled (delivered m n.replica batch).table n.pool; impatient = false })) (lines_to_answer m n batch)
+    (record { named = is.named; shared = is.shared; opening_is = is.opening_is; restored_is = is.restored_is; firm_is = is.firm_is; book = is.book }) in
+    record { named = x.named; shared = x.shared; opening_is = x.opening_is; restored_is = x.restored_is; firm_is = x.firm_is; book = x.book }
 
 longer-delivers : {S : Type 0} (m : Meaning S) (a n : Node S) → Longer a n → Longer a (delivers m n)
 unfolding delivers

@@ -12,7 +12,7 @@ use Rattle.state_transfer.specs.declared.fetch.Spoiled.{Spoiled}
 use Rattle.replica_rules.specs.Pools.{settled}
 use Rattle.replica_rules.specs.Replicas.{delivered}
 use Rattle.replica_rules.proofs.Places.{place_delivered}
-use Rattle.node_rules.specs.Nodes.{Node}
+use Rattle.node_rules.specs.Nodes.{Node, enters}
 use Rattle.node_rules.specs.Rules.{deliver_batch, delivers, lines_to_answer}
 use Rattle.node_rules.specs.Steps.{Taken, rules, pass, passed, takes_in, step_of}
 use Rattle.node_rules.specs.Transfers.{install_by, install_fetch, install_replica, installing, installs, is_of_group, spoil}
@@ -73,7 +73,7 @@ moved-deliver_batch m n i None at same is = is
 moved-deliver_batch {S = S} m n i (Some batch) at same is =
     let r : Replica S = delivered m i.replica batch in
     moves_on batch at
-    (replica-replying (record i { replica = r; waiting = None; pool = settled r.table i.pool; impatient = false }) (lines_to_answer m i batch)
+    (replica-replying (enters i (record i { replica = r; waiting = None; pool = settled r.table i.pool; impatient = false })) (lines_to_answer m i batch)
     ∙ ap (λ (x : Node S). delivered m x.replica batch) (same refl))
 
 waiting-kept : {S : Type 0} (m : Meaning S) (n : Node S) (waiting : Option Batch) → n.waiting ≡ waiting → is_some waiting ≡ true → installs m n ≡ n

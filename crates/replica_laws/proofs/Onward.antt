@@ -1,5 +1,5 @@
 -- Each message that a node holds is its own and rests on entries that it waits for; and a node's book only grows.
-use Rattle.std.proofs.Common.{◌≡◌, ℕ, zero, suc, ◌+◌, ◌≤◌, ◌++◌, ◌==◌, nat_lt, Bool, true, false, cond, List, [], ◌∷◌, length, refl, ap, ◌∙◌, sym, arith, Option, Some, None, Result, Ok, Err, is_some, subst, append-nil, append_assoc, length-append, take}
+use Rattle.std.proofs.Common.{◌≡◌, ℕ, zero, suc, ◌+◌, ◌≤◌, ◌++◌, ◌==◌, nat_le, nat_lt, Bool, true, false, cond, List, [], ◌∷◌, length, refl, ap, ◌∙◌, sym, arith, Option, Some, None, Result, Ok, Err, is_some, subst, append-nil, append_assoc, length-append, take}
 use Rattle.std.proofs.lemmas.List.{take_all}
 use Rattle.std.specs.Prelude.{IfSome, map, option_map}
 use Rattle.smart_base.specs.Lists.{Each}
@@ -23,7 +23,7 @@ use Rattle.smart_statements.specs.declared.entry.NodeEvent.TheVariants.{Arrive, 
 use Rattle.smart_service.specs.Services.{Meaning}
 use Rattle.smart_service.specs.Tables.{kept_in}
 use Rattle.smart_service.specs.declared.table.Execution.{Execution}
-use Rattle.vote_book.specs.Books.{Among}
+use Rattle.vote_book.specs.Books.{Among, last_made}
 use Rattle.vote_book.proofs.Tested.{made_within}
 use Rattle.vote_book.specs.declared.entry.Decision.{Decision}
 use Rattle.vote_book.specs.declared.entry.LogEntry.{LogEntry}
@@ -32,8 +32,8 @@ use Rattle.agreement_laws.specs.Diaries.{HasReached, HasReported, IsShown}
 use Rattle.replica_rules.specs.Replicas.{is_next, delivered, executed_lines, at_next}
 use Rattle.replica_rules.specs.Seals.{signed, digest_of}
 use Rattle.replica_rules.specs.Pools.{offered, settled}
-use Rattle.node_rules.specs.Rules.{reply_of, replying, lines_to_answer, deliver_batch, delivers, proposing, propose_batch, proposes, ballot, writing, write_batch, writes, accepting, accept_batch, accepts, deciding, decide_batch, decides, answering, answer_line, answers_again}
-use Rattle.node_rules.specs.Nodes.{Node, view_of, regency_of, next_place, open_slot, holding, holding_all, recording, signs}
+use Rattle.node_rules.specs.Rules.{reply_of, replying, lines_to_answer, deliver_batch, delivers, proposing, propose_batch, proposes, ballot, writing, write_batch, writes, accepting, accept_batch, accepts, deciding, decide_batch, decides, replies_with, answering, answer_line, answers_again}
+use Rattle.node_rules.specs.Nodes.{Node, view_of, view_told, regency_of, next_place, open_slot, holding, holding_all, recording, signs, enters, informs, stays_in_view, telling}
 use Rattle.node_rules.specs.Votes.{certificate_votes}
 use Rattle.node_rules.specs.Arrivals.{kept, noted}
 use Rattle.node_rules.specs.Changes.{start_by_sync, promised_for, adopts_by, adoption, adopts, stop_for, asks_next, joining, joins, report_of, reported_by, next_promise, promising, promise_next, promises, leading, lead_with, leads, lags, state_ask, asks_state, timing, passes_on, presses, times}
@@ -55,11 +55,14 @@ use Rattle.vote_book.proofs.Last.{last_push}
 use Rattle.node_laws.proofs.Deciding.{due_is}
 use Rattle.node_laws.proofs.Installing.{IsReady, installing_is, marks_stand}
 use Rattle.node_laws.proofs.Lists.{each_filter_map_in}
-use Rattle.node_laws.proofs.Planning.{IsTakenFrom, finished_from, restored_low}
+use Rattle.node_laws.proofs.Planning.{IsTakenFrom, finished_from, restored_follow, restored_low}
 use Rattle.node_rules.specs.declared.node.Held.{Held}
 use Rattle.node_rules.specs.declared.node.Target.{Target}
 use Rattle.node_rules.specs.declared.node.Target.TheVariants as targets
-use Rattle.replica_laws.specs.Sending.{IsOwn, RestsOn}
+use Rattle.node_laws.proofs.MovedViews.{GrownAt, grown-delivered, moved-start}
+use Rattle.replica_laws.specs.Sending.{IsOwn, IsToClient, RestsOn}
+use Rattle.replica_laws.proofs.Replying.{replica-replying}
+use Rattle.replica_laws.proofs.StartBy.{StartBy, start-followed, start-grown, start-more, start-told}
 use Rattle.replica_laws.proofs.Executions.{OfRequest, of_delivered}
 use Rattle.replica_laws.proofs.Again.{ForLine, answering-each, each-delivered}
 use Rattle.node_rules.proofs.Rulewise.{KeptByRules, by_mark, free-read, reads_as, keeps_from}
@@ -123,11 +126,13 @@ IsDecided place es waiting = IfSome waiting (HasDecided es place)
 abbrev pub LineRests : List LogEntry → Execution → Type 0
 LineRests es line = HasReached es line.place
 
--- all held messages are right, the batch that waits is decided, and the book has reached the place of each line of the table
+-- all held messages are right, the batch that waits is decided, and the book has reached the place of each line of the table, and the place before
+-- each view behind the first
 pub record NodeRests {S : Type 0} (n : Node S) : Type 0 where
   pub held : Each (HoldsRight n.id n.entries) n.held
   pub waits : IsDecided (next_place n) n.entries n.waiting
   pub lines : Each (LineRests n.entries) (kept_in n.replica.table)
+  pub views : StartBy (last_made n.entries) n.replica.views
 
 -- a node whose book has grown, and is right
 pub record Onward {S : Type 0} (n n' : Node S) : Type 0 where
@@ -178,7 +183,7 @@ holds-one n to message own rests = record {
 
 pub rests-holding : {S : Type 0} (n : Node S) (to : Target) (message : Message) → IsOwn n.id to message → RestsOn n.entries message → NodeRests n → NodeRests (holding n to message)
 rests-holding n to message own rests is =
-    record { held = each_end (HoldsRight n.id n.entries) n.held _ is.held (holds-one n to message own rests); waits = is.waits; lines = is.lines }
+    record { held = each_end (HoldsRight n.id n.entries) n.held _ is.held (holds-one n to message own rests); waits = is.waits; lines = is.lines; views = is.views }
 
 -- lines of a table, of a longer book
 lines-more : (es more : List LogEntry) (lines : List Execution) → Each (LineRests es) lines → Each (LineRests (es ++ more)) lines
@@ -191,14 +196,32 @@ rests-recording n e is =
       held = holds-more n.id n.entries (e ∷ []) n.held is.held;
       waits = decided-more (next_place n) n.entries (e ∷ []) n.waiting is.waits;
       lines = lines-more n.entries (e ∷ []) (kept_in n.replica.table) is.lines;
+      views = start-more (last_made n.entries) (last_made (n.entries ++ e ∷ [])) n.replica.views (let pushed = last_push n.entries e in omega (arith, pushed)) is.views;
     }
+
+-- a place that is decided is reached
+reached-decided : (es : List LogEntry) (place : ℕ) (batch : Batch) → HasDecided es place batch → HasReached es place
+reached-decided es place batch decided =
+    let made = made_within (entries.Decided decided.decision) es decided.decision.slot.place decided.there refl in
+    let same = decided.place_is in
+    omega (arith, made, same)
 
 -- a reply rests where its place is decided
 rests-reply : (es : List LogEntry) (place : ℕ) (batch : Batch) (l : Execution) → HasDecided es place batch → l.place ≡ place → LineRests es l
 rests-reply es place batch l decided at =
-    let made = made_within (entries.Decided decided.decision) es decided.decision.slot.place decided.there refl in
-    let same = decided.place_is in
-    omega (arith, made, same, at)
+    let reached = reached-decided es place batch decided in omega (arith, reached, at)
+
+-- a message is held, and else nothing of the book changes
+onward-holding : {S : Type 0} (n : Node S) (to : Target) (message : Message) → IsOwn n.id to message → RestsOn n.entries message → NodeRests n → Onward n (holding n to message)
+onward-holding n to message own rests is =
+    let r = rests-holding n to message own rests is in
+    record { id = refl; firm = refl; more = []; book = sym (append-nil n.entries); rests = record { held = r.held; waits = r.waits; lines = r.lines; views = r.views } }
+
+-- a view is told, where the book has reached the place before it
+onward-telling : {S : Type 0} (n : Node S) (known : Bool) (to : Target) → IsToClient to → (known ≡ false → (view_of n).start ≤ last_made n.entries + 1) → NodeRests n
+    → Onward n (telling known to n)
+onward-telling n true to client reached is = onward-same n is
+onward-telling n false to client reached is = onward-holding n to (view_told n) (refl, client) (reached refl, tt) is
 
 -- replies are held
 onward-replying : {S : Type 0} (n : Node S) (lines : List Execution) → Each (LineRests n.entries) lines → NodeRests n → Onward n (replying n lines)
@@ -222,13 +245,29 @@ replies_rest m n batch decided =
 onward-deliver_batch : {S : Type 0} (m : Meaning S) (n : Node S) (batch : Option Batch) → n.waiting ≡ batch → NodeRests n → Onward n (deliver_batch m n batch)
 unfolding deliver_batch
 onward-deliver_batch m n None at is = onward-same n is
-onward-deliver_batch m n (Some batch) at is =
+onward-deliver_batch {S = S} m n (Some batch) at is =
     let decided : HasDecided n.entries (next_place n) batch = subst (IsDecided (next_place n) n.entries) at is.waits in
-    let f = onward-replying
-    (record n { replica = delivered m n.replica batch; waiting = None; pool = settled (delivered m n.replica batch).table n.pool; impatient = false })
-    (lines_to_answer m n batch) (replies_rest m n batch decided)
-    (record { held = is.held; waits = tt; lines = each-delivered (LineRests n.entries) m n.replica batch is.lines (lines_rest m n batch decided) }) in
-    record { id = f.id; firm = f.firm; more = f.more; book = f.book; rests = f.rests }
+    let reached : HasReached n.entries (next_place n) = reached-decided n.entries (next_place n) batch decided in
+    let r : Replica S = delivered m n.replica batch in
+    let grown : GrownAt (next_place n) n.replica.views r.views = grown-delivered m n.replica batch in
+    let x : Node S = enters n (record n { replica = r; waiting = None; pool = settled r.table n.pool; impatient = false }) in
+    let y : Node S = replying x (lines_to_answer m n batch) in
+    let f : Onward x y =
+    onward-replying x (lines_to_answer m n batch) (replies_rest m n batch decided)
+    (record {
+      held = is.held;
+      waits = tt;
+      lines = each-delivered (LineRests n.entries) m n.replica batch is.lines (lines_rest m n batch decided);
+      views = start-grown (last_made n.entries) (next_place n) n.replica.views r.views reached grown is.views;
+    }) in
+    let begun : stays_in_view n y ≡ false → (view_of y).start ≤ last_made y.entries + 1 =
+    (λ moved.
+    let start = moved-start (next_place n) n.replica.views y.replica.views
+    (subst (λ (z : Replica S). GrownAt (next_place n) n.replica.views z.views) (sym (replica-replying x (lines_to_answer m n batch))) grown) moved in
+    let there : HasReached y.entries (next_place n) = subst (λ (es : List LogEntry). HasReached es (next_place n)) (sym f.book) (HasReached-more n.entries f.more (next_place n) reached) in
+    omega (arith, start, there)) in
+    let both : Onward x (informs n y) = onward-then x y (informs n y) f (onward-telling y (stays_in_view n y) targets.Clients tt begun f.rests) in
+    record { id = both.id; firm = both.firm; more = both.more; book = both.book; rests = both.rests }
 
 pub onward-delivers : {S : Type 0} (m : Meaning S) (n : Node S) → NodeRests n → Onward n (delivers m n)
 unfolding delivers
@@ -239,28 +278,27 @@ onward-kept : {S : Type 0} (n : Node S) (message : Message) → NodeRests n → 
 unfolding kept
 onward-kept {S = S} n (Ask q) is =
     either (λ (x : Node S). Onward n x) (is_next n.replica.table q.statement) (record n { pool = offered n.pool q }) n
-    (record { id = refl; firm = refl; more = []; book = sym (append-nil n.entries); rests = record { held = is.held; waits = is.waits; lines = is.lines } })
+    (record { id = refl; firm = refl; more = []; book = sym (append-nil n.entries); rests = record { held = is.held; waits = is.waits; lines = is.lines; views = is.views } })
     (onward-same n is)
 onward-kept n (Reply a) is = onward-same n is
 onward-kept n (changes.StateAsk a) is = onward-same n is
-onward-kept n _ is = record { id = refl; firm = refl; more = []; book = sym (append-nil n.entries); rests = record { held = is.held; waits = is.waits; lines = is.lines } }
+onward-kept n (changes.ViewTold i) is = onward-same n is
+onward-kept n _ is = record { id = refl; firm = refl; more = []; book = sym (append-nil n.entries); rests = record { held = is.held; waits = is.waits; lines = is.lines; views = is.views } }
 
 -- a node is told that it is behind
 onward-noted : {S : Type 0} (n : Node S) (message : Message) → NodeRests n → Onward n (noted n message)
 unfolding noted
-onward-noted n message is = record { id = refl; firm = refl; more = []; book = sym (append-nil n.entries); rests = record { held = is.held; waits = is.waits; lines = is.lines } }
-
--- a message is held, and else nothing of the book changes
-onward-holding : {S : Type 0} (n : Node S) (to : Target) (message : Message) → IsOwn n.id to message → RestsOn n.entries message → NodeRests n → Onward n (holding n to message)
-onward-holding n to message own rests is =
-    let r = rests-holding n to message own rests is in
-    record { id = refl; firm = refl; more = []; book = sym (append-nil n.entries); rests = record { held = r.held; waits = r.waits; lines = r.lines } }
+onward-noted n message is = record { id = refl; firm = refl; more = []; book = sym (append-nil n.entries); rests = record { held = is.held; waits = is.waits; lines = is.lines; views = is.views } }
 
 -- a node answers again
 onward-answer_line : {S : Type 0} (n : Node S) (line : Option Execution) → ForLine line (LineRests n.entries) → NodeRests n → Onward n (answer_line n line)
 unfolding answer_line
 onward-answer_line n None rests is = onward-same n is
-onward-answer_line n (Some line) rests is = onward-holding n (targets.Client line.client) (reply_of n.secret n.id line) (refl, refl) (rests, tt) is
+onward-answer_line {S = S} n (Some line) rests is =
+    let x : Node S = replies_with n line in
+    let f : Onward n x = onward-holding n (targets.Client line.client) (reply_of n.secret n.id line) (refl, refl) (rests, tt) is in
+    onward-then n x (answer_line n (Some line)) f
+    (onward-telling x (nat_le (length n.replica.views) 1) (targets.Client line.client) tt (start-told (last_made n.entries) n.replica.views is.views) f.rests)
 
 onward-answers_again : {S : Type 0} (n : Node S) (asked : Asked) → NodeRests n → Onward n (answers_again n asked)
 unfolding answers_again
@@ -269,7 +307,7 @@ onward-answers_again n asked is = onward-answer_line n (answering n asked) (answ
 -- the next regency is asked for
 onward-asks_next : {S : Type 0} (n : Node S) → NodeRests n → Onward n (asks_next n)
 onward-asks_next {S = S} n is =
-    let f = onward-holding (record n { stop_made = true }) targets.View (stop_for n) refl (tt, tt) (record { held = is.held; waits = is.waits; lines = is.lines }) in
+    let f = onward-holding (record n { stop_made = true }) targets.View (stop_for n) refl (tt, tt) (record { held = is.held; waits = is.waits; lines = is.lines; views = is.views }) in
     record { id = f.id; firm = f.firm; more = f.more; book = f.book; rests = f.rests }
 
 onward-joins : {S : Type 0} (n : Node S) → NodeRests n → Onward n (joins n)
@@ -283,7 +321,7 @@ onward-lead_with n None is = onward-same n is
 onward-lead_with n (Some collect) is =
     let f = onward-holding (record n { sync_made = true }) targets.View
     (changes.Sync (signed syncs n.secret n.id (record { view = (view_of n).number; regency = regency_of n; collect = collect }))) refl (tt, tt)
-    (record { held = is.held; waits = is.waits; lines = is.lines }) in
+    (record { held = is.held; waits = is.waits; lines = is.lines; views = is.views }) in
     record { id = f.id; firm = f.firm; more = f.more; book = f.book; rests = f.rests }
 
 onward-leads : {S : Type 0} (n : Node S) → NodeRests n → Onward n (leads n)
@@ -299,7 +337,7 @@ onward-presses : {S : Type 0} (n : Node S) → NodeRests n → Onward n (presses
 unfolding presses
 onward-presses {S = S} n is =
     let x : Node S = record n { impatient = true } in
-    let f = onward-passes_on x n.pool (record { held = is.held; waits = is.waits; lines = is.lines }) in
+    let f = onward-passes_on x n.pool (record { held = is.held; waits = is.waits; lines = is.lines; views = is.views }) in
     either (λ (y : Node S). Onward n y) n.impatient (asks_next n) (passes_on x n.pool) (onward-asks_next n is) (record { id = f.id; firm = f.firm; more = f.more; book = f.book; rests = f.rests })
 
 -- state is asked for
@@ -307,7 +345,7 @@ onward-asks_state : {S : Type 0} (n : Node S) → NodeRests n → Onward n (asks
 unfolding asks_state
 onward-asks_state {S = S} n is =
     let x : Node S = record n { offers = []; fetch = None; behind = false } in
-    let f = onward-holding x targets.View (state_ask n 0) refl tt (record { held = is.held; waits = is.waits; lines = is.lines }) in
+    let f = onward-holding x targets.View (state_ask n 0) refl tt (record { held = is.held; waits = is.waits; lines = is.lines; views = is.views }) in
     record { id = f.id; firm = f.firm; more = f.more; book = f.book; rests = f.rests }
 
 onward-times : {S : Type 0} (n : Node S) → NodeRests n → Onward n (times n)
@@ -334,6 +372,7 @@ onward-promised_for {S = S} n sync is =
         held = holds-more n.id n.entries [] n.held is.held;
         waits = decided-more (next_place n) n.entries [] n.waiting is.waits;
         lines = lines-more n.entries [] (kept_in n.replica.table) is.lines;
+        views = subst (λ (es : List LogEntry). StartBy (last_made es) n.replica.views) (sym (append-nil n.entries)) is.views;
       };
     })
 
@@ -346,7 +385,7 @@ onward-adopts_by {S = S} n (Some sync) is =
     let e : LogEntry = entries.Synced (start_by_sync sync.statement) in
     let g : Onward x (recording x e) = onward-recording x e f.rests in
     let both = onward-then n x (recording x e) f g in
-    record { id = refl; firm = refl; more = both.more; book = both.book; rests = record { held = g.rests.held; waits = g.rests.waits; lines = g.rests.lines } }
+    record { id = refl; firm = refl; more = both.more; book = both.book; rests = record { held = g.rests.held; waits = g.rests.waits; lines = g.rests.lines; views = g.rests.views } }
 
 onward-adopts : {S : Type 0} (n : Node S) → NodeRests n → Onward n (adopts n)
 unfolding adopts
@@ -364,8 +403,8 @@ onward-promise_next {S = S} n is =
     let x : Node S = record (recording n e) { stop_made = false; sync_made = false; impatient = true } in
     let r = rests-recording n e is in
     let f = onward-holding x (targets.Node (leader (view_of n) (regency_of n + 1))) (changes.StopData (reported_by n (regency_of n + 1))) (refl, tt) (promise-reports n, tt)
-    (record { held = r.held; waits = r.waits; lines = r.lines }) in
-    record { id = refl; firm = refl; more = e ∷ []; book = refl; rests = record { held = f.rests.held; waits = f.rests.waits; lines = f.rests.lines } }
+    (record { held = r.held; waits = r.waits; lines = r.lines; views = r.views }) in
+    record { id = refl; firm = refl; more = e ∷ []; book = refl; rests = record { held = f.rests.held; waits = f.rests.waits; lines = f.rests.lines; views = f.rests.views } }
 
 onward-promises : {S : Type 0} (n : Node S) → NodeRests n → Onward n (promises n)
 unfolding promises
@@ -378,7 +417,7 @@ onward-propose_batch n None is = onward-same n is
 onward-propose_batch n (Some batch) is =
     let f = onward-holding (record n { proposed = n.proposed ++ open_slot n ∷ [] }) targets.View
     (Propose (record { head = signed proposals n.secret n.id (record { slot = open_slot n; digest = digest_of batch }); batch = batch })) refl (tt, tt)
-    (record { held = is.held; waits = is.waits; lines = is.lines }) in
+    (record { held = is.held; waits = is.waits; lines = is.lines; views = is.views }) in
     record { id = f.id; firm = f.firm; more = f.more; book = f.book; rests = f.rests }
 
 onward-proposes : {S : Type 0} (n : Node S) → NodeRests n → Onward n (proposes n)
@@ -392,7 +431,7 @@ onward-write_batch n None is = onward-same n is
 onward-write_batch n (Some p) is =
     let entry : LogEntry = entries.Wrote (record { slot = open_slot n; digest = p.head.statement.digest }) in
     let r = rests-holding (recording n entry) targets.View (ballot n Write p.head.statement.digest) refl (among_last entry n.entries, tt) (rests-recording n entry is) in
-    record { id = refl; firm = refl; more = entry ∷ []; book = refl; rests = record { held = r.held; waits = r.waits; lines = r.lines } }
+    record { id = refl; firm = refl; more = entry ∷ []; book = refl; rests = record { held = r.held; waits = r.waits; lines = r.lines; views = r.views } }
 
 onward-writes : {S : Type 0} (n : Node S) → NodeRests n → Onward n (writes n)
 unfolding writes
@@ -411,7 +450,7 @@ onward-accept_batch n (Some p) is =
     }) in
     let r = rests-holding (recording n entry) targets.View (ballot n Accept p.head.statement.digest) refl
     (record { entry = _; there = among_last entry n.entries; slot_is = refl; digest_is = refl }, tt) (rests-recording n entry is) in
-    record { id = refl; firm = refl; more = entry ∷ []; book = refl; rests = record { held = r.held; waits = r.waits; lines = r.lines } }
+    record { id = refl; firm = refl; more = entry ∷ []; book = refl; rests = record { held = r.held; waits = r.waits; lines = r.lines; views = r.views } }
 
 onward-accepts : {S : Type 0} (n : Node S) → NodeRests n → Onward n (accepts n)
 unfolding accepts
@@ -436,7 +475,7 @@ onward-decide_batch n (Some d) at is =
       firm = refl;
       more = entries.Decided d ∷ [];
       book = refl;
-      rests = record { held = r.held; waits = record { decision = d; there = among_last (entries.Decided d) n.entries; place_is = at; batch_is = refl }; lines = r.lines };
+      rests = record { held = r.held; waits = record { decision = d; there = among_last (entries.Decided d) n.entries; place_is = at; batch_is = refl }; lines = r.lines; views = r.views };
     }
 
 onward-decides : {S : Type 0} (n : Node S) → NodeRests n → Onward n (decides n)
@@ -449,7 +488,7 @@ unfolding mark_place
 onward-mark m n is =
     let entry : LogEntry = entries.Marked (mark_of m n) in
     let r = rests-holding (recording n entry) targets.View (changes.Mark (signed marks n.secret n.id (mark_of m n))) refl (among_last entry n.entries, tt) (rests-recording n entry is) in
-    record { id = refl; firm = refl; more = entry ∷ []; book = refl; rests = record { held = r.held; waits = r.waits; lines = r.lines } }
+    record { id = refl; firm = refl; more = entry ∷ []; book = refl; rests = record { held = r.held; waits = r.waits; lines = r.lines; views = r.views } }
 
 -- ---- a replica is taken over, or given
 
@@ -519,7 +558,7 @@ unfolding follow_plan
 onward-follow_plan n None is = onward-same n is
 onward-follow_plan {S = S} n (Some p) is =
     let x : Node S = record n { fetch = Some (record { plan = p; parts = [] }) } in
-    let f = onward-holding x (targets.Node p.seeder) (state_ask n p.place) refl tt (record { held = is.held; waits = is.waits; lines = is.lines }) in
+    let f = onward-holding x (targets.Node p.seeder) (state_ask n p.place) refl tt (record { held = is.held; waits = is.waits; lines = is.lines; views = is.views }) in
     record { id = f.id; firm = f.firm; more = f.more; book = f.book; rests = f.rests }
 
 onward-plans : {S : Type 0} (n : Node S) → NodeRests n → Onward n (plans n)
@@ -528,7 +567,7 @@ onward-plans n is = onward-follow_plan n (planning n) is
 
 onward-spoil : {S : Type 0} (n : Node S) (f : Fetch) → NodeRests n → Onward n (spoil n f)
 unfolding spoil
-onward-spoil n f is = record { id = refl; firm = refl; more = []; book = sym (append-nil n.entries); rests = record { held = is.held; waits = is.waits; lines = is.lines } }
+onward-spoil n f is = record { id = refl; firm = refl; more = []; book = sym (append-nil n.entries); rests = record { held = is.held; waits = is.waits; lines = is.lines; views = is.views } }
 
 no_batch : (waiting : Option Batch) (es : List LogEntry) (place : ℕ) → waiting ≡ None → IsDecided place es waiting
 no_batch None es place is = tt
@@ -542,20 +581,16 @@ onward-install_replica {S = S} m n f r due from is =
     let pushed = last_push n.entries e in
     let at : r.place ≡ f.plan.place = from.place_is in
     let g = rests-recording n e is in
-    let x : Node S = record n {
-      entries = es;
-      replica = r;
-      pool = settled r.table n.pool;
-      fetch = None;
-      taken = n.taken ++ record { place = f.plan.place; snapshot = joined_of f; needs = length es } ∷ [];
-    } in
+    let z : Node S = record n { entries = es; replica = r; pool = settled r.table n.pool; fetch = None } in
+    let x : Node S = record (enters n z) { taken = n.taken ++ record { place = f.plan.place; snapshot = joined_of f; needs = length es } ∷ [] } in
     let rests : NodeRests x = record {
       held = g.held;
       waits = no_batch n.waiting es (r.place + 1) due.free;
       lines = each-weaken (λ (line : Execution). line.place ≤ r.place) (LineRests es) (λ line low. omega (arith, low, at, pushed)) (kept_in r.table) (restored_low m (joined_of f) r from.read);
+      views = start-followed (last_made es) r.place r.views (omega (arith, at, pushed)) (restored_follow m (joined_of f) r from.read);
     } in
     let h = onward-holding x targets.View (state_ask x 0) refl tt rests in
-    record { id = refl; firm = refl; more = e ∷ []; book = refl; rests = record { held = h.rests.held; waits = h.rests.waits; lines = h.rests.lines } }
+    record { id = refl; firm = refl; more = e ∷ []; book = refl; rests = record { held = h.rests.held; waits = h.rests.waits; lines = h.rests.lines; views = h.rests.views } }
 
 onward-install_by : {S : Type 0} (m : Meaning S) (n : Node S) (f : Fetch) (made : Result (Replica S) Spoiled) → IsReady n f → finished m f ≡ made → NodeRests n → Onward n (install_by n f made)
 onward-install_by {S = S} m n f (Ok r) due at is =
@@ -607,7 +642,7 @@ onward-takes_in {S = S} n (Arrive bytes) is =
     onward-then n told (kept told message) f (onward-kept told message f.rests)) (free-read (decoded bytes)) (onward-same n is)
 onward-takes_in n Tick is = onward-same n is
 onward-takes_in n Deliver is = onward-same n is
-onward-takes_in n (Firm count) is = onward-same (made_firm n count) (record { held = is.held; waits = is.waits; lines = is.lines })
+onward-takes_in n (Firm count) is = onward-same (made_firm n count) (record { held = is.held; waits = is.waits; lines = is.lines; views = is.views })
 
 -- a step
 pub onward-step : {S : Type 0} (m : Meaning S) (n : Node S) (event : NodeEvent) → NodeRests n → Onward (told_firm n event) (step_of m n event).node
@@ -624,8 +659,8 @@ onward-step {S = S} m n event is =
 
 -- what is firm has left
 pub rests-released : {S : Type 0} (n : Node S) → NodeRests n → NodeRests (released n)
-rests-released n is = record { held = each_staying (HoldsRight n.id n.entries) n.firm n.held is.held; waits = is.waits; lines = is.lines }
+rests-released n is = record { held = each_staying (HoldsRight n.id n.entries) n.firm n.held is.held; waits = is.waits; lines = is.lines; views = is.views }
 
 -- a node that has opened holds nothing
 pub rests-opened : {S : Type 0} (m : Meaning S) (secret : List ℕ) (id : ℕ) (view : View) (period : ℕ) → NodeRests (opened (outset m secret id view period))
-rests-opened m secret id view period = record { held = tt; waits = tt; lines = tt }
+rests-opened m secret id view period = record { held = tt; waits = tt; lines = tt; views = tt }

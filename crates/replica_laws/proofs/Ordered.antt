@@ -206,9 +206,9 @@ ordered-made {S = S} m base n cause (made_none same none) o =
     let quiet : has_installed (pass (rules m) n cause []).1 ≡ false =
     none_installed (pass (rules m) n cause []).1 (subst (λ (fs : List Fired). Each IsNoBase fs) (sym b.is) (each_append IsNoBase (told_installed m n []) b.rest none b.none)) in
     subst (λ (t : Bool). Ordered m (cond t (pass (rules m) n cause []).0.replica base) (pass (rules m) n cause []).0) (sym quiet) (ordered-behind m base n cause (ordered-kept m base n same o))
-ordered-made {S = S} m base n cause (made_new place at later free told) o =
+ordered-made {S = S} m base n cause (made_new place at later free more told none) o =
     let b = told-behind m n cause in
-    let fired : (pass (rules m) n cause []).1 ≡ fires.Installed place ∷ b.rest = b.is ∙ ap (λ (fs : List Fired). fs ++ b.rest) told in
+    let fired : (pass (rules m) n cause []).1 ≡ fires.Installed place ∷ (more ++ b.rest) = b.is ∙ ap (λ (fs : List Fired). fs ++ b.rest) told in
     let taken : has_installed (pass (rules m) n cause []).1 ≡ true = ap has_installed fired in
     let free_behind : (installs m n).waiting ≡ None = (takes-installs m n).waits ∙ free in
     subst (λ (t : Bool). Ordered m (cond t (pass (rules m) n cause []).0.replica base) (pass (rules m) n cause []).0) (sym taken)

@@ -28,7 +28,7 @@ use Rattle.vote_book.specs.declared.entry.Decision.{Decision}
 use Rattle.node_rules.specs.Arrivals.{kept, noted}
 use Rattle.node_rules.specs.Changes.{adopts_by, adoption, adopts, asks_next, joining, joins, promising, promise_next, promises, leading, lead_with, leads, lags, asks_state, timing, passes_on, presses, times}
 use Rattle.node_rules.specs.Marks.{mark_place, firm_at}
-use Rattle.node_rules.specs.Nodes.{Node, holding, holding_all}
+use Rattle.node_rules.specs.Nodes.{Node, holding, holding_all, enters}
 use Rattle.node_rules.specs.Rules.{reply_of, replying, lines_to_answer, deliver_batch, delivers, proposing, propose_batch, proposes, writing, write_batch, writes, accepting, accept_batch, accepts, deciding, decide_batch, decides, answering, answer_line, answers_again}
 use Rattle.node_rules.specs.Steps.{step_of, takes_in}
 use Rattle.node_rules.specs.Transfers.{install_by, install_fetch, install_replica, installing, installs, is_of_group, spoil, offers_state, gives_parts, answers_state, planning, follow_plan, plans, offer_for, part_messages, shown_after}
@@ -165,7 +165,7 @@ unfolding deliver_batch
 bytes-deliver_batch m n None is = is
 bytes-deliver_batch {S = S} m n (Some batch) is =
     let r : Replica S = delivered m n.replica batch in
-    bytes-replying (record n { replica = r; waiting = None; pool = settled r.table n.pool; impatient = false }) (lines_to_answer m n batch) is
+    bytes-replying (enters n (record n { replica = r; waiting = None; pool = settled r.table n.pool; impatient = false })) (lines_to_answer m n batch) is
 
 bytes-delivers : {S : Type 0} (m : Meaning S) (n : Node S) → Bytes n → Bytes (delivers m n)
 unfolding delivers

@@ -8,7 +8,7 @@ use Rattle.vote_book.specs.declared.entry.Decision.{Decision}
 use Rattle.replica_rules.specs.Replicas.{delivered}
 use Rattle.replica_rules.specs.Pools.{settled}
 use Rattle.node_rules.specs.Rules.{reply_of, replying, lines_to_answer, deliver_batch, delivers, deciding, decide_batch, decides}
-use Rattle.node_rules.specs.Nodes.{Node, holding}
+use Rattle.node_rules.specs.Nodes.{Node, holding, enters}
 use Rattle.node_rules.specs.Steps.{deliver_row, rules, pass}
 use Rattle.node_rules.specs.declared.node.Cause.{Cause}
 use Rattle.node_rules.specs.declared.node.Fired.{Fired}
@@ -74,7 +74,7 @@ unfolding deliver_batch
 place-deliver_batch m n None waits = absurd (cc)
 place-deliver_batch {S = S} m n (Some batch) waits =
     let r : Replica S = delivered m n.replica batch in
-    ap (λ (x : Replica S). x.place) (replica-replying (record n { replica = r; waiting = None; pool = settled r.table n.pool; impatient = false }) (lines_to_answer m n batch))
+    ap (λ (x : Replica S). x.place) (replica-replying (enters n (record n { replica = r; waiting = None; pool = settled r.table n.pool; impatient = false })) (lines_to_answer m n batch))
     ∙ place_delivered m n.replica batch
 
 -- so does the rule that delivers

@@ -30,6 +30,7 @@ one_rule s fires.Accepted = delivered_more s []
 one_rule s (fires.Decided place) = delivered_more s []
 one_rule s fires.Timed = delivered_more s []
 one_rule s fires.Answered = delivered_more s []
+one_rule s (fires.Viewed view) = delivered_more s []
 
 -- a step adds its deliveries to all of them, whether a segment ends in it or not
 pub segment_all : (s : Segment) (fired : List Fired) → all_of (segment_after s fired) ≡ all_of s ++ flat_map delivery_in fired

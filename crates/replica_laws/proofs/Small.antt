@@ -1,5 +1,5 @@
 -- The snapshots of a node's replicas are small, whatever view they began in.
-use Rattle.std.proofs.Common.{◌≡◌, ℕ, ◌+◌, ◌*◌, ◌^◌, ◌<◌, ◌≤◌, ◌==◌, Bool, true, false, ltb, List, [], ◌∷◌, ◌++◌, length, ap, sym, subst, cond, arith, Some}
+use Rattle.std.proofs.Common.{◌≡◌, ℕ, ◌+◌, ◌*◌, ◌^◌, ◌<◌, ◌≤◌, ◌==◌, Bool, true, false, ltb, List, [], ◌∷◌, ◌++◌, length, refl, ap, sym, subst, cond, arith, Some, inl, inr}
 use Rattle.std.specs.Int.{w32}
 use Rattle.std.specs.List.{flat_map, AllByRecursion}
 use Rattle.std.proofs.lemmas.List.{length-append}
@@ -9,6 +9,7 @@ use Rattle.smart_base.specs.Lists.{Each}
 use Rattle.smart_base.specs.Spelling.{u8, u16, u32, u64, behind, IsCount}
 use Rattle.smart_base.specs.Views.{View, is_view, present}
 use Rattle.smart_base.specs.ViewBytes.{view_text}
+use Rattle.agreement_laws.proofs.Lists.{each_end}
 use Rattle.smart_base.proofs.ViewFacts.{each-weaken}
 use Rattle.smart_base.proofs.ViewLaws.{members-few}
 use Rattle.smart_statements.specs.Batches.{Batch}
@@ -16,14 +17,18 @@ use Rattle.smart_statements.specs.Kinds.{requests}
 use Rattle.smart_statements.specs.Spelling.{FitsSigned, FitsRequest}
 use Rattle.smart_statements.specs.declared.statement.Request.{Request}
 use Rattle.smart_service.specs.Services.{Meaning, Comes, comes_next, comes_restored}
-use Rattle.smart_service.specs.Tables.{Ascends, with_line, kept_in}
+use Rattle.smart_service.specs.Tables.{Ascends, with_line, kept_in, noting}
 use Rattle.smart_service.specs.declared.replica.Replica.{Replica}
 use Rattle.smart_service.specs.declared.table.Execution.{Execution}
 use Rattle.smart_service.specs.declared.table.TableLine.{TableLine}
 use Rattle.smart_service.proofs.Coming.{comes_valid}
 use Rattle.smart_service.proofs.TableLines.{ascends_with}
-use Rattle.replica_rules.specs.Replicas.{is_next, line_of, execute, execute_all, at_next, delivered}
-use Rattle.replica_rules.proofs.Places.{place_execute, views_execute}
+use Rattle.replica_rules.specs.Replicas.{is_next, is_of_manager, outcome_at, reply_made, service_made, views_made, line_of, execute, execute_all, at_next, delivered}
+use Rattle.reconfig.specs.Outcomes.{reply_of, views_behind}
+use Rattle.reconfig.proofs.Replies.{brief as reply_brief}
+use Rattle.replica_rules.proofs.Managed.{AtMostOne, one_outcome}
+use Rattle.replica_rules.proofs.Places.{place_execute}
+use Rattle.snapshot_form.proofs.Executed.{number_count, number_low}
 use Rattle.snapshot_form.specs.Replicas as snapshots
 use Rattle.snapshot_form.specs.Replicas.{FitsReplica, IsOfClients}
 use Rattle.snapshot_form.specs.Snapshots.{line_text, counted, restored, snapshot_text}
@@ -62,10 +67,20 @@ IsSmallLine place line = snapshots.FitsLine place (2 ^ 32) line
 pub record IsSmall {S : Type 0} (m : Meaning S) (r : Replica S) : Type 0 where
   pub place_fits : r.place < 2 ^ 63
   pub views_fit : Each (λ v. is_view v ≡ true) r.views
-  pub few_views : length r.views ≤ 1024
+  pub few_views : length r.views ≤ (present r.views).number + 1
   pub lines_fit : Each (IsSmallLine r.place) r.table
   pub lines_in_turn : Ascends r.table
   pub service_fits : Comes m r.service
+
+-- views that are valid have numbers up to 1,023
+pub present_low : (vs : List View) → Each (λ v. is_view v ≡ true) vs → (present vs).number ≤ 1023
+present_low [] all = omega arith
+present_low (v ∷ []) all = number_low v all.0
+present_low (v ∷ w ∷ vs) all = present_low (w ∷ vs) all.1
+
+-- so they are at most 1,024
+pub small_few : {S : Type 0} (m : Meaning S) (r : Replica S) → IsSmall m r → length r.views ≤ 1024
+small_few m r h = let few = h.few_views in let low = present_low r.views h.views_fit in omega (arith, few, low)
 
 -- a line of fewer views
 line_wider : (place views : ℕ) → views ≤ 1024 → (line : TableLine) → snapshots.FitsLine place views line → IsSmallLine place line
@@ -84,7 +99,7 @@ pub small-fits : {S : Type 0} (m : Meaning S) (r : Replica S) → FitsReplica (C
 small-fits m r h = record {
   place_fits = h.place_fits;
   views_fit = h.views_fit;
-  few_views = h.few_views;
+  few_views = (let count = number_count r.place r.views h.views_in_turn in omega (arith, count));
   lines_fit = each-weaken (snapshots.FitsLine r.place (length r.views)) (IsSmallLine r.place) (line_wider r.place (length r.views) h.few_views) r.table h.lines_fit;
   lines_in_turn = h.lines_in_turn;
   service_fits = h.service_fits;
@@ -124,7 +139,7 @@ line_later place line h = record {
   reply_fits = h.reply_fits;
 }
 
-small-next : {S : Type 0} (m : Meaning S) (r : Replica S) → r.place + 1 < 2 ^ 63 → IsSmall m r → IsSmall m (at_next r)
+pub small-next : {S : Type 0} (m : Meaning S) (r : Replica S) → r.place + 1 < 2 ^ 63 → IsSmall m r → IsSmall m (at_next r)
 small-next m r low h = record {
   place_fits = low;
   views_fit = h.views_fit;
@@ -138,41 +153,84 @@ small-if : {S : Type 0} (m : Meaning S) (b : Bool) (x y : Replica S) → IsSmall
 small-if m true x y one other = one
 small-if m false x y one other = other
 
-small-execute : {S : Type 0} (m : Meaning S) → IsBrief m → (r : Replica S) (i : ℕ) (q : Request) → (present r.views).number < 2 ^ 32 → 1 ≤ r.place → i < 64 → q.client ≤ 1024 → IsCount q.seq → IsSmall m r
-    → IsSmall m (execute m r i q)
+-- the views that a request makes
+record SmallViews (views : List View) : Type 0 where
+  pub valid : Each (λ v. is_view v ≡ true) views
+  pub few : length views ≤ (present views).number + 1
+
+pub present_end : (vs : List View) (v : View) → present (vs ++ v ∷ []) ≡ v
+present_end [] v = refl
+present_end (w ∷ []) v = refl
+present_end (w ∷ x ∷ ws) v = present_end (x ∷ ws) v
+
+small-begun : (place : ℕ) (views more : List View) → place < 2 ^ 63 → SmallViews views → AtMostOne place views more → SmallViews more
+small-begun place views more low h (inl same) = subst SmallViews (sym same) h
+small-begun place views more low h (inr one) =
+    let v : View = one.0 in
+    let numbered = one.2.number_is in
+    let long = length-append views (v ∷ []) in
+    let few = h.few in
+    let last : (present (views ++ v ∷ [])).number ≡ v.number = ap (λ (u : View). u.number) (present_end views v) in
+    subst SmallViews (sym one.1) (record { valid = each_end (λ w. is_view w ≡ true) views v h.valid (one.2.valid low); few = omega (arith, long, few, numbered, last) })
+
+small-made : {S : Type 0} (m : Meaning S) (r : Replica S) (q : Request) → IsSmall m r → SmallViews (views_made r q)
+small-made m r q h = by (is_of_manager q)
+  where
+    own : SmallViews r.views
+    own = record { valid = h.views_fit; few = h.few_views }
+
+    by : (c : Bool) → SmallViews (cond c (views_behind r.views (outcome_at r q)) r.views)
+    by true = small-begun r.place r.views (views_behind r.views (outcome_at r q)) h.place_fits own (one_outcome r.place r.views q.op (outcome_at r q) refl)
+    by false = own
+
+-- its reply, and what it leaves of the service
+pub small-reply : {S : Type 0} (m : Meaning S) → IsBrief m → (r : Replica S) (q : Request) → Comes m r.service → length (reply_made m r q) ≤ 4096
+small-reply m brief r q come = by (is_of_manager q)
+  where
+    by : (c : Bool) → length (cond c (reply_of (outcome_at r q)) (m.reply r.service q.op)) ≤ 4096
+    by true = reply_brief r.views q.op r.place
+    by false = brief.brief r.service q.op come
+
+small-service : {S : Type 0} (m : Meaning S) (r : Replica S) (q : Request) → Comes m r.service → Comes m (service_made m r q)
+small-service m r q come = by (is_of_manager q)
+  where
+    by : (c : Bool) → Comes m (cond c r.service (m.next r.service q.op))
+    by true = come
+    by false = comes_next r.service q.op come
+
+pub small-execute : {S : Type 0} (m : Meaning S) → IsBrief m → (r : Replica S) (i : ℕ) (q : Request) → 1 ≤ r.place → i < 64 → q.client ≤ 1024 → IsCount q.seq → IsSmall m r → IsSmall m (execute m r i q)
 unfolding execute
-small-execute m brief r i q view some low known count h =
-    small-if m (is_next r.table q) _ r (record {
+small-execute m brief r i q some low known count h =
+    let made = small-made m r q h in
+    small-if m (is_next r.table q) (record { service = service_made m r q; table = noting r.table (line_of m r i q); views = views_made r q; place = r.place }) r (record {
       place_fits = h.place_fits;
-      views_fit = h.views_fit;
-      few_views = h.few_views;
+      views_fit = made.valid;
+      few_views = made.few;
       lines_fit = each_with (IsSmallLine r.place) r.table (record { last = line_of m r i q }) h.lines_fit (record {
         client_fits = known;
         seq_fits = count;
         some_place = some;
         past_place = omega arith;
         index_fits = low;
-        view_fits = view;
-        reply_fits = brief.brief r.service q.op h.service_fits;
+        view_fits = (let number = present_low r.views h.views_fit in omega (arith, number));
+        reply_fits = small-reply m brief r q h.service_fits;
       });
       lines_in_turn = ascends_with r.table (record { last = line_of m r i q }) h.lines_in_turn;
-      service_fits = comes_next r.service q.op h.service_fits;
+      service_fits = small-service m r q h.service_fits;
     }) h
 
-small-all : {S : Type 0} (m : Meaning S) → IsBrief m → (r : Replica S) (i : ℕ) (qs : Batch) → (present r.views).number < 2 ^ 32 → 1 ≤ r.place → i + length qs ≤ 64 → Each (λ q. q.statement.client ≤ 1024) qs
+small-all : {S : Type 0} (m : Meaning S) → IsBrief m → (r : Replica S) (i : ℕ) (qs : Batch) → 1 ≤ r.place → i + length qs ≤ 64 → Each (λ q. q.statement.client ≤ 1024) qs
     → AllByRecursion (FitsSigned requests FitsRequest) qs → IsSmall m r → IsSmall m (execute_all m r i qs)
-small-all m brief r i [] view some few known each h = h
-small-all m brief r i (q ∷ qs) view some few known each h =
+small-all m brief r i [] some few known each h = h
+small-all m brief r i (q ∷ qs) some few known each h =
     let place = place_execute m r i q.statement in
-    small-all m brief (execute m r i q.statement) (i + 1) qs
-    (subst (λ (vs : List View). (present vs).number < 2 ^ 32) (sym (views_execute m r i q.statement)) view) (omega (arith, some, place)) (omega (arith, few)) known.1 each.1
-    (small-execute m brief r i q.statement view some (omega (arith, few)) known.0 each.0.statement_fits.seq_fits h)
+    small-all m brief (execute m r i q.statement) (i + 1) qs (omega (arith, some, place)) (omega (arith, few)) known.1 each.1
+    (small-execute m brief r i q.statement some (omega (arith, few)) known.0 each.0.statement_fits.seq_fits h)
 
-pub small-delivered : {S : Type 0} (m : Meaning S) → IsBrief m → (r : Replica S) (batch : Batch) → (present r.views).number < 2 ^ 32 → r.place + 1 < 2 ^ 63 → IsOfClients batch → IsSmall m r
-    → IsSmall m (delivered m r batch)
+pub small-delivered : {S : Type 0} (m : Meaning S) → IsBrief m → (r : Replica S) (batch : Batch) → r.place + 1 < 2 ^ 63 → IsOfClients batch → IsSmall m r → IsSmall m (delivered m r batch)
 unfolding delivered
-small-delivered m brief r batch view low of h =
-    small-all m brief (at_next r) 0 batch view (omega arith) (let few = of.0.count_fits.1 in omega (arith, few)) of.1 of.0.each_fits (small-next m r low h)
+small-delivered m brief r batch low of h =
+    small-all m brief (at_next r) 0 batch (omega arith) (let few = of.0.count_fits.1 in omega (arith, few)) of.1 of.0.each_fits (small-next m r low h)
 
 -- ---- how long a snapshot is
 
@@ -214,7 +272,7 @@ short_small m brief r h =
     let s = behind w32 (m.snapshot r.service) in
     let l = counted line_text r.table ++ s in
     let v = counted view_text r.views ++ l in
-    omega (arith, short_text (m.snapshot r.service), brief.small r.service h.service_fits, length-append (u16 (length r.table)) (flat_map line_text r.table), length-append (counted line_text r.table) s, length-append (u16 (length r.views)) (flat_map view_text r.views), length-append (counted view_text r.views) l, length-append (u64 r.place) v, short_views r.views h.views_fit, h.few_views, short_lines r.place r.table h.lines_fit, few_lines r.place (2 ^ 32) r.table h.lines_fit h.lines_in_turn)
+    omega (arith, short_text (m.snapshot r.service), brief.small r.service h.service_fits, length-append (u16 (length r.table)) (flat_map line_text r.table), length-append (counted line_text r.table) s, length-append (u16 (length r.views)) (flat_map view_text r.views), length-append (counted view_text r.views) l, length-append (u64 r.place) v, short_views r.views h.views_fit, small_few m r h, short_lines r.place r.table h.lines_fit, few_lines r.place (2 ^ 32) r.table h.lines_fit h.lines_in_turn)
 
 -- what holds of each line of a table holds of each execution that it keeps
 pub each_kept : (P : Execution → Type 0) (table : List TableLine) → Each (λ (line : TableLine). P line.last) table → Each P (kept_in table)

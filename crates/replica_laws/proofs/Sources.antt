@@ -37,8 +37,9 @@ use Rattle.replica_rules.specs.Replicas.{is_next, delivered, state}
 use Rattle.agreement_laws.specs.Statements.{Statement}
 use Rattle.node_rules.specs.Votes.{is_vote, has_vote, has_quorum, proposed_in, proposed_for}
 use Rattle.node_rules.specs.Marks.{mark_of, mark_place}
-use Rattle.node_rules.specs.Nodes.{Node, view_of, regency_of, regency_in, greatest_regency, open_slot, synchronizer_of, next_place}
+use Rattle.node_rules.specs.Nodes.{Node, view_of, regency_of, regency_in, greatest_regency, open_slot, synchronizer_of, next_place, recording, entered, enters, informs, stays_in_view}
 use Rattle.node_rules.specs.Arrivals.{kept, noted, part_why, why_dropped, why_ignored, why_part}
+use Rattle.node_rules.specs.declared.node.Target.TheVariants as targets
 use Rattle.node_rules.specs.Rules.{lines_to_answer, replying, deliver_batch, delivers, proposes, votable, writing, write_batch, writes, written, accepting, accept_batch, accepts, slot_in, deciding, decide_batch, decides, answers_again}
 use Rattle.node_rules.specs.Changes.{start_by_sync, promised_for, adopts_by, is_adoptable, adoption, adopts, joins, next_promise, promising, promise_next, promises, leads, times, asks_state, lags, presses, timing}
 use Rattle.node_rules.specs.Steps.{step_of, released, opened, outset}
@@ -47,7 +48,7 @@ use Rattle.node_laws.proofs.Deciding.{due_is, FromShown, FromVotes}
 use Rattle.node_laws.proofs.Lists.{each_filter_map_in}
 use Rattle.node_laws.proofs.Reopened.{in_turn}
 use Rattle.replica_laws.proofs.Lists.{each_given, if_or, if_cond, if_found}
-use Rattle.replica_laws.proofs.Entered.{Aside, aside-joins, aside-leads, aside-proposes, aside-presses, aside-answers_again, aside-answers_state, aside-noted}
+use Rattle.replica_laws.proofs.Entered.{Aside, aside-then, aside-telling, aside-joins, aside-leads, aside-proposes, aside-presses, aside-answers_again, aside-answers_state, aside-noted}
 use Rattle.node_rules.proofs.Rulewise.{KeptByRules, KeptInSteps, keeps_step, ForEvent}
 use Rattle.replica_laws.proofs.MarkPlaces.{stands, IsMarkUpTo, up_to_more, marks_reached, IsAbove, above_all, place_marked, place_decided}
 use Rattle.replica_laws.proofs.Replying.{aside-replying, place-delivers}
@@ -474,6 +475,22 @@ is_from-aside {S = S} sources n n' aside is =
     (is_from-same sources n (record n { held = aside.holds; proposed = aside.slots; stop_made = aside.stopped; sync_made = aside.led; impatient = aside.pressed; behind = aside.told })
     (record { arrivals = refl; stops = refl; syncs = refl; decisions = refl }) refl refl refl refl is)
 
+-- a node that is in a view, or that enters one
+is_from-entered : {S : Type 0} (sources : List (List ℕ)) (stays : Bool) (n : Node S) → IsFrom sources n → IsFrom sources (entered stays n)
+is_from-entered sources stays n is = record {
+  from = record {
+    arrivals = either (λ (ms : List Message). Each (λ (m : Message). HasSource sources m) ms) stays n.arrivals [] is.from.arrivals tt;
+    stops = either (λ (xs : List (SignedBy Stop)). Each (λ (s : SignedBy Stop). HasSource sources (changes.Stop s)) xs) stays n.stops [] is.from.stops tt;
+    syncs = either (λ (xs : List (SignedBy Sync)). Each (λ (s : SignedBy Sync). HasSource sources (changes.Sync s)) xs) stays n.syncs [] is.from.syncs tt;
+    decisions = is.from.decisions;
+    fetch = is.from.fetch;
+    waiting = is.from.waiting;
+    book = is.from.book;
+    marks = is.from.marks;
+  };
+  some = is.some;
+}
+
 -- a regency above the one in force is above all that are promised in its view
 above_force : {S : Type 0} (n : Node S) (view regency : ℕ) → view ≡ (view_of n).number → regency_of n < regency → greatest_regency view n.entries < regency
 unfolding regency_of
@@ -677,6 +694,7 @@ is_from-kept sources n (changes.StatePart p) fine came is = record {
 }
 is_from-kept sources n (Reply a) fine came is = is
 is_from-kept sources n (changes.StateAsk a) fine came is = is
+is_from-kept sources n (changes.ViewTold i) fine came is = is
 is_from-kept sources n _ fine came is = is_from-same sources n _ (record { arrivals = refl; stops = refl; syncs = refl; decisions = refl }) refl refl refl refl is
 
 is_from-deliver_batch : {S : Type 0} (sources : List (List ℕ)) (m : Meaning S) (n : Node S) (batch : Option Batch) → IsFrom sources n → IsFrom sources (deliver_batch m n batch)
@@ -685,8 +703,10 @@ is_from-deliver_batch sources m n None is = is
 is_from-deliver_batch {S = S} sources m n (Some batch) is =
     let r : Replica S = delivered m n.replica batch in
     let x : Node S = record n { replica = r; waiting = None; pool = settled r.table n.pool; impatient = false } in
-    is_from-aside sources x (replying x (lines_to_answer m n batch)) (aside-replying x (lines_to_answer m n batch))
-    (is_from-as sources n x (record { arrivals = refl; stops = refl; syncs = refl; decisions = refl }) refl (let next = place_delivered m n.replica batch in omega (arith, next)) is.from.fetch tt is)
+    let y : Node S = enters n x in
+    let z : Node S = replying y (lines_to_answer m n batch) in
+    is_from-aside sources y (informs n z) (aside-then y z (informs n z) (aside-replying y (lines_to_answer m n batch)) (aside-telling (stays_in_view n z) targets.Clients z))
+    (is_from-entered sources (stays_in_view n x) x (is_from-as sources n x (record { arrivals = refl; stops = refl; syncs = refl; decisions = refl }) refl (let next = place_delivered m n.replica batch in omega (arith, next)) is.from.fetch tt is))
 
 is_from-delivers : {S : Type 0} (sources : List (List ℕ)) (m : Meaning S) (n : Node S) → IsFrom sources n → IsFrom sources (delivers m n)
 unfolding delivers
@@ -751,11 +771,15 @@ none-waits sources place (Some batch) free = absurd (cc)
 is_from-install_replica : {S : Type 0} (sources : List (List ℕ)) (m : Meaning S) (n : Node S) (f : Fetch) (r : Replica S) → IsReady n f → IsTakenFrom m f r → IsFrom sources n
     → IsFrom sources (install_replica n f r)
 unfolding install_replica
-is_from-install_replica sources m n f r due taken is =
+is_from-install_replica {S = S} sources m n f r due taken is =
     let at : r.place ≡ f.plan.place = taken.place_is in
     let later : n.replica.place < f.plan.place = due.later in
-    is_from-end sources n (install_replica n f r) (installed_by f.plan) (record { arrivals = refl; stops = refl; syncs = refl; decisions = refl }) refl (omega (arith, at, later)) tt (none-waits sources (r.place + 1) n.waiting due.free)
-    (plan-from sources m f r taken.read (stands-from sources n.fetch f due.stands is.from.fetch)) tt tt is
+    let x : Node S = record (recording n (installed_by f.plan)) { replica = r; pool = settled r.table n.pool; fetch = None } in
+    let y : Node S = enters n x in
+    is_from-as sources y (install_replica n f r) (record { arrivals = refl; stops = refl; syncs = refl; decisions = refl }) refl (still r.place) tt (none-waits sources (r.place + 1) n.waiting due.free)
+    (is_from-entered sources (stays_in_view n x) x
+    (is_from-end sources n x (installed_by f.plan) (record { arrivals = refl; stops = refl; syncs = refl; decisions = refl }) refl (omega (arith, at, later)) tt (none-waits sources (r.place + 1) n.waiting due.free)
+    (plan-from sources m f r taken.read (stands-from sources n.fetch f due.stands is.from.fetch)) tt tt is))
 
 is_from-install_by : {S : Type 0} (sources : List (List ℕ)) (m : Meaning S) (n : Node S) (f : Fetch) (made : Result (Replica S) Spoiled) → IsReady n f → finished m f ≡ made → IsFrom sources n
     → IsFrom sources (install_by n f made)

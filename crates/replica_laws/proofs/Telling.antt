@@ -1,6 +1,6 @@
 -- Each reply that a node holds tells an execution that the node knows: of a batch that it delivered, or of the table of a replica that it began
 -- with or took over.
-use Rattle.std.proofs.Common.{◌≡◌, ℕ, ◌+◌, ◌++◌, ◌∙◌, ◌==◌, ⊎_elim, ap, Bool, true, false, cond, List, [], ◌∷◌, length, sym, subst, refl, inl, inr, Option, Some, None, Result, Ok, Err, is_some, take, drop, append-nil, append_assoc}
+use Rattle.std.proofs.Common.{◌≡◌, ℕ, ◌+◌, ◌++◌, ◌∙◌, ◌==◌, ⊎_elim, ap, nat_le, Bool, true, false, cond, List, [], ◌∷◌, length, sym, subst, refl, inl, inr, Option, Some, None, Result, Ok, Err, is_some, take, drop, append-nil, append_assoc}
 use Rattle.std.proofs.lemmas.List.{take-append-drop}
 use Rattle.std.proofs.lemmas.Grind.{flat_map-append}
 use Rattle.std.specs.List.{flat_map, filter_map}
@@ -33,8 +33,8 @@ use Rattle.smart_service.specs.declared.table.Execution.{Execution}
 use Rattle.vote_book.specs.declared.entry.Decision.{Decision}
 use Rattle.replica_rules.specs.Pools.{offered, settled}
 use Rattle.replica_rules.specs.Replicas.{is_next, delivered, executed_lines, executions, empty, state, batch_at}
-use Rattle.node_rules.specs.Rules.{reply_of, replying, lines_to_answer, deliver_batch, delivers, delivery, proposing, propose_batch, proposes, writing, write_batch, writes, accepting, accept_batch, accepts, deciding, decide_batch, decides, answering, answer_line, answers_again}
-use Rattle.node_rules.specs.Nodes.{Node, view_of, holding, holding_all}
+use Rattle.node_rules.specs.Rules.{reply_of, replying, lines_to_answer, deliver_batch, delivers, delivery, proposing, propose_batch, proposes, writing, write_batch, writes, accepting, accept_batch, accepts, deciding, decide_batch, decides, replies_with, answering, answer_line, answers_again}
+use Rattle.node_rules.specs.Nodes.{Node, view_of, telling, stays_in_view, holding, holding_all, enters}
 use Rattle.node_rules.specs.Arrivals.{noted, kept}
 use Rattle.node_rules.specs.Changes.{fired_when, adopts_by, adoption, adopts, asks_next, joining, joins, promising, promise_next, promises, leading, lead_with, leads, lags, asks_state, timing, passes_on, presses, times}
 use Rattle.node_rules.specs.Deliveries.{delivery_in}
@@ -60,9 +60,10 @@ use Rattle.replica_laws.specs.Lines.{HasLine, HeldRight, HoldsAmong, ReplyAmong,
 use Rattle.replica_laws.proofs.Again.{ForLine, answering-each, each-after_batches, each-delivered}
 use Rattle.replica_laws.proofs.Based.{IsNoBase, told-behind}
 use Rattle.replica_laws.proofs.Counted.{Made, made_none, made_new, made_of, none-delivered}
+use Rattle.replica_laws.proofs.Entered.{each-telling}
 use Rattle.replica_laws.proofs.Executions.{executions-more, executed-at, has_either, has_left, has_right}
 use Rattle.replica_laws.proofs.Follows.{WasDue, Waits, due-passed, told-marked, told-passed, waits-takes_in}
-use Rattle.replica_laws.proofs.Installs.{installs-none, quiet-installs, takes-installs}
+use Rattle.replica_laws.proofs.Installs.{installs-none, one-delivery, quiet-installs, takes-installs}
 use Rattle.replica_laws.proofs.Leaves.{Leaves, leaves-adopts, leaves-joins, leaves-promises, leaves-leads, leaves-proposes, leaves-writes, leaves-accepts, leaves-times, leaves-answers_again, leaves-answers_state, leaves-plans, leaves-noted, leaves-kept, leaves-mark}
 use Rattle.replica_laws.proofs.OnePlace.{each_line}
 use Rattle.replica_laws.proofs.Ordered.{none_installed, replica-installed}
@@ -120,13 +121,18 @@ table_lines {S = S} m v chosen n aligned =
     (each_inside (HasLine (executions m v chosen)) (executions m v (take k chosen))
     (λ l has. subst (λ (list : List Batch). HasLine (executions m v list) l) (take-append-drop k chosen) (executions-more m v (take k chosen) (drop k chosen) l has))))
 
+-- a view that is told is no reply
+held-telling : {S : Type 0} (known : List Execution) (n : Node S) (told : Bool) (to : Target) → HoldsAmong known n → HoldsAmong known (telling told to n)
+held-telling known n told to held = each-telling (λ (h : Held). ReplyAmong known h.message) n told to held (λ new. tt)
+
 -- an answer again tells these where the lines of the table are these
 held-answer_line : {S : Type 0} (known : List Execution) (n : Node S) (line : Option Execution) → ForLine line (HasLine known) → HoldsAmong known n
     → HoldsAmong known (answer_line n line)
 unfolding answer_line
 held-answer_line known n None right held = held
 held-answer_line known n (Some line) right held =
-    each_end (λ (h : Held). ReplyAmong known h.message) n.held (record { to = targets.Client line.client; message = reply_of n.secret n.id line; needs = length n.entries }) held right
+    held-telling known (replies_with n line) (nat_le (length n.replica.views) 1) (targets.Client line.client)
+    (each_end (λ (h : Held). ReplyAmong known h.message) n.held (record { to = targets.Client line.client; message = reply_of n.secret n.id line; needs = length n.entries }) held right)
 
 held-answers_again : {S : Type 0} (known : List Execution) (n : Node S) (asked : Asked) → Each (HasLine known) (kept_in n.replica.table) → HoldsAmong known n
     → HoldsAmong known (answers_again n asked)
@@ -343,11 +349,13 @@ unfolding deliver_batch
 tells-deliver_batch known m n None executed is = is
 tells-deliver_batch {S = S} known m n (Some batch) executed is =
     let r : Replica S = delivered m n.replica batch in
-    let x : Node S = record n { replica = r; waiting = None; pool = settled r.table n.pool; impatient = false } in
+    let x : Node S = enters n (record n { replica = r; waiting = None; pool = settled r.table n.pool; impatient = false }) in
+    let y : Node S = replying x (lines_to_answer m n batch) in
     let lines : Each (HasLine known) (executed_lines m n.replica batch) = executed batch refl in
     record {
-      held = held-replying known x (lines_to_answer m n batch) is.held (either (Each (HasLine known)) (is_member (view_of n) n.id) (executed_lines m n.replica batch) [] lines tt);
-      lines = subst (λ (y : Replica S). Each (HasLine known) (kept_in y.table)) (sym (replica-replying x (lines_to_answer m n batch))) (each-delivered (HasLine known) m n.replica batch is.lines lines);
+      held = held-telling known y (stays_in_view n y) targets.Clients
+          (held-replying known x (lines_to_answer m n batch) is.held (either (Each (HasLine known)) (is_member (view_of n) n.id) (executed_lines m n.replica batch) [] lines tt));
+      lines = subst (λ (z : Replica S). Each (HasLine known) (kept_in z.table)) (sym (replica-replying x (lines_to_answer m n batch))) (each-delivered (HasLine known) m n.replica batch is.lines lines);
     }
 
 tells-delivers : {S : Type 0} (known : List Execution) (m : Meaning S) (n : Node S) → ((batch : Batch) → n.waiting ≡ Some batch → Each (HasLine known) (executed_lines m n.replica batch))
@@ -380,7 +388,8 @@ told_lines : {S : Type 0} (m : Meaning S) (n : Node S) (waiting : Option Batch) 
 unfolding delivery
 told_lines m n None batch is l has = absurd cc
 told_lines m n (Some b) batch is l has =
-    has_left (executed_lines m n.replica b) [] l (subst (λ (x : Batch). HasLine (executed_lines m n.replica x) l) (sym (some_equal b batch is)) has)
+    subst (λ (ds : List Delivery). HasLine (lines_told m n.replica ds) l) (sym (one-delivery m n b))
+    (has_left (executed_lines m n.replica b) [] l (subst (λ (x : Batch). HasLine (executed_lines m n.replica x) l) (sym (some_equal b batch is)) has))
 
 -- Behind an installation a pass tells what was known and what it delivers.
 pub tells-pass : {S : Type 0} (known : List Execution) (m : Meaning S) (n : Node S) (cause : Cause) → TellsAmong known (installs m n)
@@ -433,12 +442,12 @@ tells-made {S = S} known m n cause (made_none same none) is =
     record { held = held-installs known m n is.held; lines = subst (λ (r : Replica S). Each (HasLine known) (kept_in r.table)) (sym same) is.lines } in
     subst (λ (t : Bool). TellsAmong (known ++ cond t (kept_in after.replica.table) (lines_told m n.replica (flat_map delivery_in fired))) after) (sym quiet)
     (subst (λ (r : Replica S). TellsAmong (known ++ lines_told m r (flat_map delivery_in fired)) after) same (tells-pass known m n cause begun))
-tells-made {S = S} known m n cause (made_new place at later free told) is =
+tells-made {S = S} known m n cause (made_new place at later free more told quiet) is =
     let b = told-behind m n cause in
     let i : Node S = installs m n in
     let fired : List Fired = (pass (rules m) n cause []).1 in
     let after : Node S = (pass (rules m) n cause []).0 in
-    let fired_is : fired ≡ fires.Installed place ∷ b.rest = b.is ∙ ap (λ (fs : List Fired). fs ++ b.rest) told in
+    let fired_is : fired ≡ fires.Installed place ∷ (more ++ b.rest) = b.is ∙ ap (λ (fs : List Fired). fs ++ b.rest) told in
     let taken : has_installed fired ≡ true = ap has_installed fired_is in
     let waits : i.waiting ≡ None = (takes-installs m n).waits ∙ free in
     let table : List Execution = kept_in i.replica.table in
@@ -495,7 +504,7 @@ told_inside known m r (d ∷ ds) each l has =
 installed_lines : {S : Type 0} (known : List Execution) (m : Meaning S) (n : Node S) (cause : Cause) → Made m n → Each (HasLine known) (kept_in n.replica.table)
     → Each (HasLine known) (kept_in (pass (rules m) n cause []).0.replica.table) → Each (HasLine known) (kept_in (installs m n).replica.table)
 installed_lines {S = S} known m n cause (made_none same none) own behind = subst (λ (r : Replica S). Each (HasLine known) (kept_in r.table)) (sym same) own
-installed_lines {S = S} known m n cause (made_new place at later free told) own behind =
+installed_lines {S = S} known m n cause (made_new place at later free more told quiet) own behind =
     subst (λ (r : Replica S). Each (HasLine known) (kept_in r.table)) (replica-installed m n cause ((takes-installs m n).waits ∙ free)) behind
 
 held-passed : {S : Type 0} (m : Meaning S) (v : View) (chosen : List Batch) (n : Node S) (t : Taken S) (why : Option Why) → Along m v chosen n → Waits n t.node

@@ -1,11 +1,12 @@
--- The executions of a list of batches.
+-- The executions of a list of batches, and what members tell clients of them and of views.
 use Rattle.std.specs.Prelude.{◌≡◌, ◌<◌, ◌⊎◌, List, [], ◌∷◌, IfSome}
 use Rattle.smart_base.specs.Views.{View}
 use Rattle.smart_statements.specs.Batches.{Batch}
 use Rattle.smart_statements.specs.declared.statement.Answer.{Answer}
-use Rattle.smart_messages.specs.Messages.{reply_in}
+use Rattle.smart_messages.specs.Messages.{reply_in, view_told_in}
 use Rattle.smart_messages.specs.declared.message.Message.{Message}
 use Rattle.smart_service.specs.Services.{Meaning}
+use Rattle.vote_book.specs.Books.{Among}
 use Rattle.replica_rules.specs.Replicas.{executions}
 use Rattle.node_rules.specs.Nodes.{Node}
 use Rattle.node_rules.specs.Reopening.{decided_of}
@@ -56,3 +57,13 @@ ReplyAmong lines message = IfSome (reply_in message) (λ a. HasLine lines (line_
 -- a node of which each held reply tells one of these executions
 abbrev pub HoldsAmong : {S : Type 0} → List Execution → Node S → Type 0
 HoldsAmong lines n = Each (λ h. ReplyAmong lines h.message) n.held
+
+-- ---- views
+
+-- a message that tells one of these views, if it tells a view
+abbrev pub ViewAmong : List View → Message → Type 0
+ViewAmong views message = IfSome (view_told_in message) (λ i. Among i.statement.view views)
+
+-- a node of which each held message that tells a view tells one of these
+abbrev pub HoldsViews : {S : Type 0} → List View → Node S → Type 0
+HoldsViews views n = Each (λ h. ViewAmong views h.message) n.held

@@ -1,5 +1,5 @@
 -- The senders of held messages, and the entries that held messages rest on.
-use Rattle.std.specs.Prelude.{ℕ, ◌≡◌, Bool, true, false, ◌&&◌, List, take, Option, Some, None, IfSome, Ok}
+use Rattle.std.specs.Prelude.{ℕ, ◌≡◌, ◌≤◌, Bool, true, false, ◌&&◌, List, take, Option, Some, None, IfSome, Ok}
 use Rattle.std.specs.List.{list_all}
 use Rattle.smart_base.specs.Cuts.{IsBytes}
 use Rattle.smart_base.specs.Lists.{Each}
@@ -8,7 +8,7 @@ use Rattle.smart_statements.specs.Batches.{Batch}
 use Rattle.smart_statements.specs.Reports.{reports, marks}
 use Rattle.smart_statements.specs.declared.report.Evidence.TheVariants as evidence
 use Rattle.smart_statements.specs.declared.report.Report.{Report}
-use Rattle.smart_messages.specs.Regencies.{stops, syncs}
+use Rattle.smart_messages.specs.Regencies.{stops, syncs, view_infos}
 use Rattle.smart_messages.specs.Messages.{spelling, decoded, sync_in}
 use Rattle.smart_statements.specs.declared.entry.NodeEvent.{NodeEvent}
 use Rattle.smart_statements.specs.declared.entry.NodeEvent.TheVariants.{Arrive, Tick, Deliver, Firm}
@@ -29,10 +29,18 @@ abbrev pub IsToNode : Target → Type 0
 IsToNode (targets.Node member) = Unit {0}
 IsToNode (targets.Client client) = ⊥
 IsToNode targets.View = ⊥
+IsToNode targets.Clients = ⊥
+
+-- a target that is one client, or all of them
+abbrev pub IsToClient : Target → Type 0
+IsToClient (targets.Node member) = ⊥
+IsToClient (targets.Client client) = Unit {0}
+IsToClient targets.View = ⊥
+IsToClient targets.Clients = Unit {0}
 
 -- A message that a member may hold for a target. It names the member as its signer; a reply goes to the client that it names, and a report
 -- to one member. A request may be a client's, passed on to one member. A decision and a part are anybody's, shown to one member. An ask for
--- state and an offer name the member, and so does each mark of an offer.
+-- state and an offer name the member, and so does each mark of an offer. A view is told to clients.
 abbrev pub IsOwn : ℕ → Target → Message → Type 0
 IsOwn id to (Ask q) = IsToNode to
 IsOwn id to (Propose p) = p.head.signer ≡ id
@@ -46,14 +54,36 @@ IsOwn id to (changes.Decision d) = IsToNode to
 IsOwn id to (changes.StateAsk a) = a.member ≡ id
 IsOwn id to (changes.StateOffer o) = (o.member ≡ id) × (Each (λ m. m.signer ≡ id) o.marks × IsToNode to)
 IsOwn id to (changes.StatePart p) = IsToNode to
+IsOwn id to (changes.ViewTold i) = (i.signer ≡ id) × IsToClient to
 
 -- Entries that a message rests on: those that show the statements that it is signed as. A vote has its own entry, a reply its place or a later
 -- one. A report has its promise, after entries that are what it says. A MARK has its mark's entry, and an offer an entry for each of its marks.
--- Other messages rest on nothing.
+-- A view that is told has the entry of the place before it starts, or of a later one. Other messages rest on nothing.
 abbrev pub RestsOn : List LogEntry → Message → Type 0
 RestsOn entries m = Each (IsShown digest_of entries) (own m)
 
--- a message that orders requests, answers one, marks a place, or asks for state or gives a part of it; it has at most 1,048,576 bytes
+-- A message that names no later view than one of a number, and no place past one. A proposal, a vote, a STOP, a report, a SYNC and a view that is
+-- told name a view. A mark and an ask for state name a place. Of other messages nothing is asked.
+abbrev pub NamesUpTo : ℕ → ℕ → Message → Type 0
+NamesUpTo number place (Ask q) = Unit {0}
+NamesUpTo number place (Propose p) = p.head.statement.slot.view ≤ number
+NamesUpTo number place (Vote b) = b.statement.slot.view ≤ number
+NamesUpTo number place (Reply a) = Unit {0}
+NamesUpTo number place (changes.Stop s) = s.statement.view ≤ number
+NamesUpTo number place (changes.StopData r) = r.head.statement.view ≤ number
+NamesUpTo number place (changes.Sync s) = s.statement.view ≤ number
+NamesUpTo number place (changes.Mark m) = m.statement.place ≤ place
+NamesUpTo number place (changes.Decision d) = Unit {0}
+NamesUpTo number place (changes.StateAsk a) = a.place ≤ place
+NamesUpTo number place (changes.StateOffer o) = Unit {0}
+NamesUpTo number place (changes.StatePart p) = Unit {0}
+NamesUpTo number place (changes.ViewTold i) = i.statement.view.number ≤ number
+
+-- a node of which each held message does
+abbrev pub HoldsUpTo : {S : Type 0} → ℕ → ℕ → Node S → Type 0
+HoldsUpTo number place n = Each (λ h. NamesUpTo number place h.message) n.held
+
+-- a message that orders requests, answers one, marks a place, asks for state or gives a part of it, or tells a view; it has at most 1,048,576 bytes
 abbrev pub orders : Message → Bool
 orders (Ask q) = true
 orders (Propose p) = true
@@ -67,6 +97,7 @@ orders (changes.Decision d) = false
 orders (changes.StateAsk a) = true
 orders (changes.StateOffer o) = false
 orders (changes.StatePart p) = true
+orders (changes.ViewTold i) = true
 
 -- a node whose leaving messages rest on firm entries
 abbrev pub LeavesFirm : {S : Type 0} → Node S → Type 0
@@ -94,6 +125,7 @@ is_tagged secret (changes.Decision d) = list_all (λ b. is_verified ballots secr
 is_tagged secret (changes.StateAsk a) = true
 is_tagged secret (changes.StateOffer o) = list_all (λ m. is_verified marks secret m) o.marks
 is_tagged secret (changes.StatePart p) = true
+is_tagged secret (changes.ViewTold i) = is_verified view_infos secret i
 
 -- a report that bears no evidence if its last place is 0
 abbrev pub IsTerse : Report → Type 0

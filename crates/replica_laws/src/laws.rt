@@ -1,18 +1,24 @@
 //! The laws of one node.
-ghost use Rattle.std.specs.Prelude.{◌≡◌, ◌<◌, ◌≤◌, ◌^◌, ◌++◌, max, ℕ, true, List};
+ghost use Rattle.std.specs.Prelude.{◌≡◌, ◌<◌, ◌≤◌, ◌↔◌, ◌^◌, ◌-◌, ◌++◌, max, ℕ, true, List, length, take};
 ghost use Rattle.smart_base.specs.Lists.{Each};
 ghost use Rattle.smart_base.specs.Views.{View, is_view};
 ghost use Rattle.smart_statements.specs.Spelling.{IsSigner};
 ghost use Rattle.smart_statements.specs.Batches.{Batch};
 ghost use Rattle.smart_statements.specs.declared.entry.NodeEvent.{NodeEvent};
 ghost use Rattle.smart_service.specs.declared.table.Execution.{Execution};
+ghost use Rattle.smart_service.specs.declared.replica.Replica.{Replica};
+ghost use Rattle.vote_book.specs.Books.{last_made};
 ghost use Rattle.vote_book.specs.Entries.{FitsEntry};
 ghost use Rattle.vote_book.specs.declared.entry.LogEntry.{LogEntry};
-ghost use Rattle.replica_rules.specs.Replicas.{executions};
-ghost use Rattle.node_rules.specs.Nodes.{Node};
+ghost use Rattle.replica_rules.specs.Replicas.{empty, executions, state, views_after};
+ghost use Rattle.replica_rules.specs.Seals.{is_alone};
+ghost use Rattle.agreement_laws.specs.Statements.{Statement};
+ghost use Rattle.node_rules.specs.Nodes.{Node, ring_of};
 ghost use Rattle.node_rules.specs.Steps.{step_of, Outset, outset, opened};
-ghost use Rattle.node_rules.specs.Reopening.{reopened};
+ghost use Rattle.node_rules.specs.Reopening.{decided_of, reopened};
 ghost use Rattle.node_rules.specs.Kept.{node_after};
+ghost use Rattle.node_laws.specs.Restored.{IsSoundBook};
+ghost use Rattle.node_laws.specs.Sound.{IsSound};
 ghost use Rattle.replica_laws.specs.Books.{passing, begins, is_installation, AcceptsOnce, DeliversInOrder};
 ghost use Rattle.replica_laws.specs.Bases.{base_of, lines_of};
 ghost use Rattle.replica_laws.specs.Lines.{HasLine, InOrder, HoldsExecuted, HoldsAmong};
@@ -32,6 +38,41 @@ pub fn accepts_once<S: Service>()
 /// began with, or the one that it took over last.
 pub fn delivers_in_order<S: Service>()
     ensures { (o : Outset S) (events : List NodeEvent) → DeliversInOrder S.meaning (base_of S.meaning o.replica (opened o) events) (node_after S.meaning (opened o) events) }
+{}
+
+/// A member may restart from each front of its book, if it began with the empty replica and took over
+/// none (recovery: Dura-SMaRt, USENIX ATC 2013). Such a front is sound in the views behind what it
+/// decides, as `reopened` of node_laws' `a_restart_is_sound` wants it. Those are fewer views than the
+/// node knows, or one more, if a batch that makes a view still waits.
+///
+/// - `opened`, `reopened`: a node that has been opened or reopened delivers in order from the replica that
+///   it began with.
+/// - `along`: it goes on to do so whatever comes, while its book tells of no installation more. It keeps
+///   the place with which it began.
+/// - `known`: a node that delivers in order from the state after a list knows the views behind the list
+///   and what it has delivered since.
+/// - `longer`: a book that makes no place past a list is sound in the views behind the list if and only if
+///   it is so in those behind a longer one.
+/// - `front`, `restarts`: take a sound node that delivers in order from the empty replica, and whose book
+///   tells of no installation. Each front of its book is sound in the views behind what the front decides.
+///   So the node after a restart from that front is sound.
+pub fn a_member_restarts_from_each_front<S: Service>()
+    ensures opened { (o : Outset S) → DeliversInOrder S.meaning o.replica (opened o) }
+    ensures reopened { (o : Outset S) (entries : List LogEntry) → DeliversInOrder S.meaning o.replica (reopened S.meaning o entries) }
+    ensures along { (base : Replica S) (n : Node S) (events : List NodeEvent) → DeliversInOrder S.meaning base n →
+        passing is_installation (node_after S.meaning n events).entries ≤ passing is_installation n.entries →
+        DeliversInOrder S.meaning base (node_after S.meaning n events) × (node_after S.meaning n events).opening ≡ n.opening }
+    ensures known { (view : View) (list : List Batch) (n : Node S) → DeliversInOrder S.meaning (state S.meaning view list) n →
+        n.replica.views ≡ views_after view (list ++ take (n.replica.place - length list) (decided_of (length list) n.entries)) }
+    ensures longer { (secret : List ℕ) (stated : List Statement) (view : View) (list more : List Batch) (entries : List LogEntry) → is_view view ≡ true →
+        Each (λ b. is_alone b ≡ true) (list ++ more) → length (list ++ more) < 2 ^ 63 → last_made entries ≤ length list →
+        (IsSoundBook secret stated (views_after view list) entries ↔ IsSoundBook secret stated (views_after view (list ++ more)) entries) }
+    ensures front { (stated : List Statement) (first : View) (n : Node S) (k : ℕ) → IsSound stated first n → DeliversInOrder S.meaning (empty S.meaning first) n → n.opening ≡ 0 →
+        passing is_installation n.entries ≡ 0 →
+        IsSoundBook (ring_of n) stated (views_after first (decided_of 0 (take k n.entries))) (take k n.entries) }
+    ensures restarts { (stated : List Statement) (first : View) (n : Node S) (id period k : ℕ) → IsSound stated first n → DeliversInOrder S.meaning (empty S.meaning first) n → n.opening ≡ 0 →
+        passing is_installation n.entries ≡ 0 →
+        IsSound stated first (reopened S.meaning (outset S.meaning (ring_of n) id first period) (take k n.entries)) }
 {}
 
 /// A client's request of a number is executed at most once, whatever batches are delivered (state
@@ -79,12 +120,13 @@ pub fn a_regency_begins_once<S: Service>()
 /// A vote leaves only after its entry is firm. A reply leaves only after firm entries make its place
 /// or a later one. A report leaves only after its promise is firm, and firm entries before that are
 /// what it says. A MARK leaves only after the entry of its mark is firm. An offer of state leaves only
-/// after the entries of all its marks are firm. For other messages nothing is claimed. That replies
-/// wait for the log is Dura-SMaRt's (USENIX ATC 2013). That votes, reports and marks do is this
-/// project's own rule.
+/// after the entries of all its marks are firm. A view is told only after firm entries make the place
+/// before its first, or a later one. For other messages nothing is claimed. That replies wait for the
+/// log is Dura-SMaRt's (USENIX ATC 2013). That votes, reports, marks and views do is this project's own
+/// rule.
 ///
-/// Whatever comes to a node that has let nothing go yet, each vote, report, reply, MARK and offer of
-/// state that would leave it now rests on firm entries.
+/// Whatever comes to a node that has let nothing go yet, each vote, report, reply, MARK, offer of state
+/// and view that would leave it now rests on firm entries.
 pub fn votes_leave_when_firm<S: Service>()
     ensures { (secret : List ℕ) (id : ℕ) (view : View) (period : ℕ) (events : List NodeEvent) → LeavesFirm (node_after S.meaning (opened (outset S.meaning secret id view period)) events) }
 {}
@@ -92,7 +134,7 @@ pub fn votes_leave_when_firm<S: Service>()
 /// A message that a node holds names the node as its signer, whatever comes. The exception is a
 /// client's request that it passes on to one member. A reply goes to the client that it names, and a
 /// report to one member. An offer names the node, and so does each mark in it. A decision and a part go to
-/// one member.
+/// one member. A view is told to clients.
 pub fn holds_its_own<S: Service>()
     ensures { (secret : List ℕ) (id : ℕ) (view : View) (period : ℕ) (events : List NodeEvent) → HoldsOwn id (node_after S.meaning (opened (outset S.meaning secret id view period)) events) }
 {}

@@ -5,7 +5,7 @@ use Rattle.smart_statements.specs.Batches.{Batch}
 use Rattle.smart_statements.specs.declared.statement.Request.{Request}
 use Rattle.smart_service.specs.Services.{Meaning}
 use Rattle.smart_service.specs.declared.replica.Replica.{Replica}
-use Rattle.replica_rules.specs.Replicas.{is_next, execute, execute_all, at_next, delivered, empty, after_batches, state}
+use Rattle.replica_rules.specs.Replicas.{is_next, is_of_manager, service_made, execute, execute_all, at_next, delivered, empty, after_batches, state}
 
 -- of two replicas with valid services, a choice has one
 valid_if : {S : Type 0} (valid : S → Type 0) (b : Bool) (x y : Replica S) → valid x.service → valid y.service → valid (cond b x y).service
@@ -13,9 +13,16 @@ valid_if valid true x y one other = one
 valid_if valid false x y one other = other
 
 module _ {S : Type 0} (m : Meaning S) (valid : S → Type 0) (next : (s : S) (op : List ℕ) → valid s → valid (m.next s op)) where
+  valid_choice : (b : Bool) (s s' : S) → valid s → valid s' → valid (cond b s s')
+  valid_choice true s s' one other = one
+  valid_choice false s s' one other = other
+
+  valid_made : (r : Replica S) (q : Request) → valid r.service → valid (service_made m r q)
+  valid_made r q is = valid_choice (is_of_manager q) r.service (m.next r.service q.op) is (next r.service q.op is)
+
   pub valid_execute : (r : Replica S) (i : ℕ) (q : Request) → valid r.service → valid (execute m r i q).service
   unfolding execute
-  valid_execute r i q is = valid_if valid (is_next r.table q) _ r (next r.service q.op is) is
+  valid_execute r i q is = valid_if valid (is_next r.table q) _ r (valid_made r q is) is
 
   valid_all : (r : Replica S) (i : ℕ) (qs : Batch) → valid r.service → valid (execute_all m r i qs).service
   valid_all r i [] is = is

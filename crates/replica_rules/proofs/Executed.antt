@@ -20,7 +20,7 @@ noting_same old olds x false true is lt same = rw (is, lt) (own_line x (old ∷ 
 noting_same old olds x false false is lt same = rw (is, lt, is) same
 
 -- an execution that is noted has its client's last number
-last_same : (table : List TableLine) (x : Execution) → last_seq (noting table x) x.client ≡ x.seq
+pub last_same : (table : List TableLine) (x : Execution) → last_seq (noting table x) x.client ≡ x.seq
 last_same [] x = own_line x []
 last_same (old ∷ olds) x = noting_same old olds x (old.last.client == x.client) (nat_lt x.client old.last.client) refl refl (last_same olds x)
 
@@ -34,7 +34,7 @@ noting_other old olds x c false true is lt apart same = rw (is, lt, apart) refl
 noting_other old olds x c false false is lt apart same = rw (is, lt, same) refl
 
 -- another client's number stays
-last_other : (table : List TableLine) (x : Execution) (c : ℕ) → (x.client == c) ≡ false → last_seq (noting table x) c ≡ last_seq table c
+pub last_other : (table : List TableLine) (x : Execution) (c : ℕ) → (x.client == c) ≡ false → last_seq (noting table x) c ≡ last_seq table c
 last_other [] x c apart = rw apart refl
 last_other (old ∷ olds) x c apart =
     noting_other old olds x c (old.last.client == x.client) (nat_lt x.client old.last.client) refl refl apart (last_other olds x c apart)

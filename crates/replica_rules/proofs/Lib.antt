@@ -1,3 +1,4 @@
 pub mod Places
 pub mod Coming
 pub mod Executed
+pub mod Managed

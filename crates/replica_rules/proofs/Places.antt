@@ -1,11 +1,11 @@
--- The place and the views of a replica behind batches, and what batches behind others execute.
+-- The place of a replica behind batches, and what batches behind others execute.
 use Rattle.std.proofs.Common.{◌≡◌, ℕ, ◌+◌, ◌++◌, Bool, true, false, List, [], ◌∷◌, length, refl, ap, ◌∙◌, sym, cond, arith, append_assoc}
 use Rattle.smart_base.specs.Views.{View}
 use Rattle.smart_statements.specs.Batches.{Batch}
 use Rattle.smart_statements.specs.declared.statement.Request.{Request}
 use Rattle.smart_service.specs.Services.{Meaning}
 use Rattle.smart_service.specs.declared.replica.Replica.{Replica}
-use Rattle.replica_rules.specs.Replicas.{is_next, execute, execute_all, at_next, delivered, executed_lines, empty, after_batches, state, executions_from, views_after}
+use Rattle.replica_rules.specs.Replicas.{is_next, execute, execute_all, at_next, delivered, executed_lines, empty, after_batches, state, executions_from}
 
 -- ---- the place
 
@@ -37,35 +37,6 @@ after_place m r (batch ∷ list) =
 -- each batch takes a place
 pub state_place : {S : Type 0} (m : Meaning S) (v : View) (list : List Batch) → (state m v list).place ≡ length list
 state_place m v list = let place = after_place m (empty m v) list in omega (arith, place)
-
--- ---- the views
-
--- of two replicas with the same views, a choice has them
-views_if : {S : Type 0} (b : Bool) (x y : Replica S) → x.views ≡ y.views → (cond b x y).views ≡ y.views
-views_if true x y same = same
-views_if false x y same = refl
-
--- a request leaves the views, and so do requests and a batch
-pub views_execute : {S : Type 0} (m : Meaning S) (r : Replica S) (i : ℕ) (q : Request) → (execute m r i q).views ≡ r.views
-unfolding execute
-views_execute m r i q = views_if (is_next r.table q) _ r refl
-
-pub views_all : {S : Type 0} (m : Meaning S) (r : Replica S) (i : ℕ) (qs : Batch) → (execute_all m r i qs).views ≡ r.views
-views_all m r i [] = refl
-views_all m r i (q ∷ qs) = views_all m (execute m r i q.statement) (i + 1) qs ∙ views_execute m r i q.statement
-
-pub views_delivered : {S : Type 0} (m : Meaning S) (r : Replica S) (batch : Batch) → (delivered m r batch).views ≡ r.views
-unfolding delivered
-views_delivered m r batch = views_all m (at_next r) 0 batch
-
-after_views : {S : Type 0} (m : Meaning S) (r : Replica S) (list : List Batch) → (after_batches m r list).views ≡ r.views
-after_views m r [] = refl
-after_views m r (batch ∷ list) = after_views m (delivered m r batch) list ∙ views_delivered m r batch
-
--- a replica has the views that its list of batches makes
-pub state_views : {S : Type 0} (m : Meaning S) (v : View) (list : List Batch) → (state m v list).views ≡ views_after v list
-unfolding views_after
-state_views m v list = after_views m (empty m v) list
 
 -- ---- what is executed
 

@@ -28,9 +28,13 @@ request_fits secret place q = nat_le q.statement.client LAST_CLIENT && nat_lt q.
 abbrev pub is_managers : SignedBy Request → Bool
 is_managers q = q.statement.client == 0
 
+-- a batch in which a request of the view manager stands alone
+abbrev pub is_alone : Batch → Bool
+is_alone batch = nat_le (length batch) 1 || not (list_any is_managers batch)
+
 -- a batch that may stand at a place: it has 1 to 64 requests and at most 262,144 bytes, and each request may stand there. A request of the
 -- view manager stands alone.
 unfoldable pub fits : List ℕ → Batch → ℕ → Bool
 fits secret batch place =
     nat_le 1 (length batch) && nat_le (length batch) BATCH_REQUESTS && nat_le (length (batch_text batch)) BATCH_BYTES
-    && list_all (request_fits secret place) batch && (nat_le (length batch) 1 || not (list_any is_managers batch))
+    && list_all (request_fits secret place) batch && is_alone batch

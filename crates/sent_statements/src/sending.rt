@@ -81,6 +81,7 @@ fn keep_own(
             keep_each(alloc, member, offer.marks.as_slice(), found)?;
             Ok(())
         }
+        Message::ViewTold(info) => keep(alloc, member, info, found),
         Message::Decision(_) | Message::StateAsk(_) | Message::StatePart(_) => Ok(()),
     }
 }

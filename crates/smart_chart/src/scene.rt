@@ -19,6 +19,7 @@ pub enum Kind {
     StateAsk,
     Offer,
     Part,
+    View,
     Raw,
 }
 
@@ -58,7 +59,7 @@ pub enum Scene<'a> {
 }
 
 /// The words of a transcript for the kinds of message.
-const KINDS: [(&str, Kind); 14] = [
+const KINDS: [(&str, Kind); 15] = [
     ("ask", Kind::Ask),
     ("propose", Kind::Propose),
     ("write", Kind::Write),
@@ -72,6 +73,7 @@ const KINDS: [(&str, Kind); 14] = [
     ("stateask", Kind::StateAsk),
     ("offer", Kind::Offer),
     ("part", Kind::Part),
+    ("view", Kind::View),
     ("raw", Kind::Raw),
 ];
 
@@ -113,6 +115,7 @@ impl Kind {
             Kind::StateAsk => "STATEASK",
             Kind::Offer => "STATEOFFER",
             Kind::Part => "STATEPART",
+            Kind::View => "VIEWTOLD",
             Kind::Raw => "RAW",
         }
     }
@@ -133,6 +136,7 @@ impl Kind {
             Kind::StateAsk => "place fetch",
             Kind::Offer => "place marks",
             Kind::Part => "place part of",
+            Kind::View => "view",
             Kind::Raw => "",
         }
     }
@@ -172,7 +176,8 @@ impl Message<'_> {
                 Some(0) => Audience::View,
                 _ => Audience::Nobody,
             },
-            Kind::Decision | Kind::Offer | Kind::Part | Kind::Raw => Audience::Nobody,
+            // A view is told to all clients, or to one that its words do not name.
+            Kind::Decision | Kind::Offer | Kind::Part | Kind::View | Kind::Raw => Audience::Nobody,
         }
     }
 }

@@ -30,7 +30,7 @@ use Rattle.transfer_form.specs.Transfers.{ask_text, FitsAsk, offer_text, FitsOff
 use Rattle.transfer_form.proofs.Transfers as laws
 use Rattle.transfer_form.proofs.Transfers.{offer_law, part_law, proven_law}
 use Rattle.smart_messages.specs.Regencies.{stops, FitsStop, syncs, FitsSync, view_infos, FitsViewInfo, stop_law, sync_law, view_info_law}
-use Rattle.smart_messages.specs.Messages.{kind, content, spelling, FitsContent, Fits, ask_at, propose_at, vote_at, stop_message_at, stop_data_at, sync_message_at, decision_at, reply_at, mark_message_at, state_ask_at, state_offer_at, state_part_at, body_at, is_kind, message_kind_at, message_at, decoded, batch_in, decision_in, proof_in, Statement, Asked, Proposed, Voted, Stopped, Reported, Synced, Marked, Replied, Informed, sealed, sealed_of, own}
+use Rattle.smart_messages.specs.Messages.{kind, content, spelling, FitsContent, Fits, ask_at, propose_at, vote_at, stop_message_at, stop_data_at, sync_message_at, decision_at, reply_at, mark_message_at, state_ask_at, state_offer_at, state_part_at, view_told_at, body_at, is_kind, message_kind_at, message_at, decoded, batch_in, decision_in, proof_in, Statement, Asked, Proposed, Voted, Stopped, Reported, Synced, Marked, Replied, Informed, sealed, sealed_of, own}
 use Rattle.smart_messages.specs.declared.message.Sealed.{Sealed}
 use Rattle.smart_messages.specs.declared.message.Message.{Message}
 use Rattle.smart_messages.specs.declared.message.Message.TheVariants.{Ask, Propose, Vote, Reply}
@@ -61,6 +61,9 @@ sync_part = signed_law syncs (λ signer. FitsSync) (omega arith) sync_law
 
 mark_part : Law (FitsSigned marks (λ signer. FitsMark)) (signed marks) (signed_at marks)
 mark_part = signed_law marks (λ signer. FitsMark) (omega arith) mark_law
+
+view_info_part : Law (FitsSigned view_infos (λ signer. FitsViewInfo)) (signed view_infos) (signed_at view_infos)
+view_info_part = signed_law view_infos (λ signer. FitsViewInfo) (omega arith) view_info_law
 
 batch_part : Law (FitsOptional FitsBatch) (optional batch_text) (optional_at (batch_at requests))
 batch_part = optional_law FitsBatch batch_text (batch_at requests) batch_law
@@ -162,15 +165,22 @@ state_part_takes c y bs e =
     let t = part_law.takes c b.0 bs b.1 in
     subst (λ (y : Message × Cut). IsTaken 12 c y.0 y.1) (ok_is (changes.StatePart b.0.0, b.0.1) y b.2) ((refl, t.0), t.1)
 
--- a kind from 1 to 12 that is none of the first eleven
+view_told_takes : (c : Cut) (y : Message × Cut) → IsBytes c.left → view_told_at c ≡ Ok y → IsTaken 13 c y.0 y.1
+unfolding view_told_at
+view_told_takes c y bs e =
+    let b = bind_ok (signed_at view_infos c) (λ i. Ok (changes.ViewTold i.0, i.1)) y e in
+    let t = view_info_part.takes c b.0 bs b.1 in
+    subst (λ (y : Message × Cut). IsTaken 13 c y.0 y.1) (ok_is (changes.ViewTold b.0.0, b.0.1) y b.2) ((refl, t.0), t.1)
+
+-- a kind from 1 to 13 that is none of the first twelve
 last_of : (k : ℕ) → is_kind k ≡ true → eqb k 1 ≡ false → eqb k 2 ≡ false → eqb k 3 ≡ false → eqb k 4 ≡ false → eqb k 5 ≡ false → eqb k 6 ≡ false → eqb k 7 ≡ false → eqb k 8 ≡ false
-    → eqb k 9 ≡ false → eqb k 10 ≡ false → eqb k 11 ≡ false → k ≡ 12
-last_of k known a b c d e f g h i j l =
-    let ends = and_true (leb 1 k) (leb k 12) known in
+    → eqb k 9 ≡ false → eqb k 10 ≡ false → eqb k 11 ≡ false → eqb k 12 ≡ false → k ≡ 13
+last_of k known a b c d e f g h i j l m =
+    let ends = and_true (leb 1 k) (leb k 13) known in
     omega (
       arith,
       leb-true 1 k ends.0,
-      leb-true k 12 ends.1,
+      leb-true k 13 ends.1,
       eqb-false k 1 a,
       eqb-false k 2 b,
       eqb-false k 3 c,
@@ -182,6 +192,7 @@ last_of k known a b c d e f g h i j l =
       eqb-false k 9 i,
       eqb-false k 10 j,
       eqb-false k 11 l,
+      eqb-false k 12 m,
     )
 
 body_takes : (k : ℕ) → is_kind k ≡ true → (c : Cut) (y : Message × Cut) → IsBytes c.left → body_at k c ≡ Ok y → IsTaken k c y.0 y.1
@@ -198,10 +209,11 @@ body_takes k known c y bs e =
     picked (eqb k 9) k 9 _ _ y refl e9 (λ same one. subst (λ (k : ℕ). IsTaken k c y.0 y.1) (sym same) (mark_takes c y bs one)) λ n9 e10.
     picked (eqb k 10) k 10 _ _ y refl e10 (λ same one. subst (λ (k : ℕ). IsTaken k c y.0 y.1) (sym same) (state_ask_takes c y bs one)) λ n10 e11.
     picked (eqb k 11) k 11 _ _ y refl e11 (λ same one. subst (λ (k : ℕ). IsTaken k c y.0 y.1) (sym same) (state_offer_takes c y bs one)) λ n11 e12.
-    subst (λ (k : ℕ). IsTaken k c y.0 y.1) (sym (last_of k known n1 n2 n3 n4 n5 n6 n7 n8 n9 n10 n11)) (state_part_takes c y bs e12)
+    picked (eqb k 12) k 12 _ _ y refl e12 (λ same one. subst (λ (k : ℕ). IsTaken k c y.0 y.1) (sym same) (state_part_takes c y bs one)) λ n12 e13.
+    subst (λ (k : ℕ). IsTaken k c y.0 y.1) (sym (last_of k known n1 n2 n3 n4 n5 n6 n7 n8 n9 n10 n11 n12)) (view_told_takes c y bs e13)
 
 content_again : (c : Cut) (m : Message) (d : Cut) → FitsContent m → Spelled c (content m) d → body_at (kind m) c ≡ Ok (m, d)
-unfolding body_at ask_at propose_at vote_at stop_message_at stop_data_at sync_message_at decision_at reply_at mark_message_at state_ask_at state_offer_at state_part_at
+unfolding body_at ask_at propose_at vote_at stop_message_at stop_data_at sync_message_at decision_at reply_at mark_message_at state_ask_at state_offer_at state_part_at view_told_at
 content_again c (Ask a) d h s = bind_is (signed_at requests c) (λ a. Ok (Ask a.0, a.1)) (a, d) (ask_law.again c a d h s)
 content_again c (Vote a) d h s = bind_is (signed_at ballots c) (λ a. Ok (Vote a.0, a.1)) (a, d) (vote_law.again c a d h s)
 content_again c (Reply a) d h s = bind_is (signed_at answers c) (λ a. Ok (Reply a.0, a.1)) (a, d) (reply_law.again c a d h s)
@@ -218,6 +230,7 @@ content_again c (changes.Decision b) d h s = bind_is (proven_at c) (λ x. Ok (ch
 content_again c (changes.StateAsk a) d h s = bind_is (transfers.ask_at c) (λ x. Ok (changes.StateAsk x.0, x.1)) (a, d) (laws.ask_law.again c a d h s)
 content_again c (changes.StateOffer o) d h s = bind_is (offer_at c) (λ x. Ok (changes.StateOffer x.0, x.1)) (o, d) (offer_law.again c o d h s)
 content_again c (changes.StatePart p) d h s = bind_is (part_at c) (λ x. Ok (changes.StatePart x.0, x.1)) (p, d) (part_law.again c p d h s)
+content_again c (changes.ViewTold i) d h s = bind_is (signed_at view_infos c) (λ i. Ok (changes.ViewTold i.0, i.1)) (i, d) (view_info_part.again c i d h s)
 content_again c (changes.StopData r) d h p =
     let m = middle c (signed reports r.head) (optional batch_text r.batch) d in
     bind_is (signed_at reports c) (λ r. optional_at (batch_at requests) r.1 >>= λ b. Ok (changes.StopData (record { head = r.0; batch = b.0 }), b.1))
@@ -239,6 +252,7 @@ kind_fits (changes.Decision d) = (omega arith, refl)
 kind_fits (changes.StateAsk a) = (omega arith, refl)
 kind_fits (changes.StateOffer o) = (omega arith, refl)
 kind_fits (changes.StatePart p) = (omega arith, refl)
+kind_fits (changes.ViewTold i) = (omega arith, refl)
 
 body_law : (k : ℕ) → (k < 2 ^ 8) × (is_kind k ≡ true) → Law (λ m. (Unit {0} × (kind m ≡ k)) × FitsContent m) content (body_at k)
 body_law k h = record {

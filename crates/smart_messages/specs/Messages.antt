@@ -27,7 +27,7 @@ use Rattle.transfer_form.specs.Transfers.{ask_text, FitsAsk, offer_text, FitsOff
 use Rattle.transfer_form.specs.declared.transfer.StateAsk.{StateAsk}
 use Rattle.transfer_form.specs.declared.transfer.StateOffer.{StateOffer}
 use Rattle.transfer_form.specs.declared.transfer.ProvenBatch.{ProvenBatch}
-use Rattle.smart_messages.specs.Regencies.{stops, FitsStop, syncs, FitsSync, view_infos}
+use Rattle.smart_messages.specs.Regencies.{stops, FitsStop, syncs, FitsSync, view_infos, FitsViewInfo}
 use Rattle.smart_messages.specs.declared.regency.Stop.{Stop}
 use Rattle.smart_messages.specs.declared.regency.Sync.{Sync}
 use Rattle.smart_messages.specs.declared.message.Message.{Message}
@@ -54,6 +54,7 @@ kind (changes.Mark m) = 9
 kind (changes.StateAsk a) = 10
 kind (changes.StateOffer o) = 11
 kind (changes.StatePart p) = 12
+kind (changes.ViewTold i) = 13
 
 -- the bytes of a message after the first one
 abbrev pub content : Message → List ℕ
@@ -69,6 +70,7 @@ content (changes.Mark m) = signed marks m
 content (changes.StateAsk a) = ask_text a
 content (changes.StateOffer o) = offer_text o
 content (changes.StatePart p) = part_text p
+content (changes.ViewTold i) = signed view_infos i
 
 -- the bytes of a message: it has one spelling
 unfoldable pub spelling : Message → List ℕ
@@ -89,6 +91,7 @@ FitsContent (changes.Mark m) = FitsSigned marks (λ signer. FitsMark) m
 FitsContent (changes.StateAsk a) = FitsAsk a
 FitsContent (changes.StateOffer o) = FitsOffer o
 FitsContent (changes.StatePart p) = FitsPart p
+FitsContent (changes.ViewTold i) = FitsSigned view_infos (λ signer. FitsViewInfo) i
 
 -- a message that has bytes: each field is within its limits, and all are at most 1,048,576 bytes
 pub record Fits (m : Message) : Type 0 where
@@ -159,6 +162,11 @@ state_part_at c = do
   p ← part_at c
   Ok (changes.StatePart p.0, p.1)
 
+unfoldable pub view_told_at : Cut → Read Message
+view_told_at c = do
+  i ← signed_at view_infos c
+  Ok (changes.ViewTold i.0, i.1)
+
 unfoldable pub body_at : ℕ → Cut → Read Message
 body_at kind c =
     if kind == 1 then ask_at c
@@ -172,11 +180,12 @@ body_at kind c =
     else if kind == 9 then mark_message_at c
     else if kind == 10 then state_ask_at c
     else if kind == 11 then state_offer_at c
-    else state_part_at c
+    else if kind == 12 then state_part_at c
+    else view_told_at c
 
 -- a byte with which a message begins
 abbrev pub is_kind : ℕ → Bool
-is_kind k = nat_le 1 k && nat_le k 12
+is_kind k = nat_le 1 k && nat_le k 13
 
 abbrev pub message_kind_at : Cut → Read ℕ
 message_kind_at = ranged is_kind (number_at w8)
@@ -206,6 +215,7 @@ request_in (changes.Mark m) = None
 request_in (changes.StateAsk a) = None
 request_in (changes.StateOffer o) = None
 request_in (changes.StatePart p) = None
+request_in (changes.ViewTold i) = None
 
 -- the PROPOSE that a message is, if it is one
 abbrev pub proposal_in : Message → Option proposed.Proposed
@@ -221,6 +231,7 @@ proposal_in (changes.Mark m) = None
 proposal_in (changes.StateAsk a) = None
 proposal_in (changes.StateOffer o) = None
 proposal_in (changes.StatePart p) = None
+proposal_in (changes.ViewTold i) = None
 
 -- the vote that a message is, if it is one
 abbrev pub vote_in : Message → Option (SignedBy Ballot)
@@ -236,6 +247,7 @@ vote_in (changes.Mark m) = None
 vote_in (changes.StateAsk a) = None
 vote_in (changes.StateOffer o) = None
 vote_in (changes.StatePart p) = None
+vote_in (changes.ViewTold i) = None
 
 -- the STOP that a message is, if it is one
 abbrev pub stop_in : Message → Option (SignedBy Stop)
@@ -251,6 +263,7 @@ stop_in (changes.Mark m) = None
 stop_in (changes.StateAsk a) = None
 stop_in (changes.StateOffer o) = None
 stop_in (changes.StatePart p) = None
+stop_in (changes.ViewTold i) = None
 
 -- the STOPDATA that a message is, if it is one
 abbrev pub report_in : Message → Option reported.Reported
@@ -266,6 +279,7 @@ report_in (changes.Mark m) = None
 report_in (changes.StateAsk a) = None
 report_in (changes.StateOffer o) = None
 report_in (changes.StatePart p) = None
+report_in (changes.ViewTold i) = None
 
 -- the SYNC that a message is, if it is one
 abbrev pub sync_in : Message → Option (SignedBy Sync)
@@ -281,6 +295,7 @@ sync_in (changes.Mark m) = None
 sync_in (changes.StateAsk a) = None
 sync_in (changes.StateOffer o) = None
 sync_in (changes.StatePart p) = None
+sync_in (changes.ViewTold i) = None
 
 -- the reply that a message is, if it is one
 abbrev pub reply_in : Message → Option (SignedBy Answer)
@@ -296,6 +311,7 @@ reply_in (changes.Mark m) = None
 reply_in (changes.StateAsk a) = None
 reply_in (changes.StateOffer o) = None
 reply_in (changes.StatePart p) = None
+reply_in (changes.ViewTold i) = None
 
 -- the slot of a PROPOSE or of a vote
 abbrev pub slot_of : Message → Option Slot
@@ -311,6 +327,7 @@ slot_of (changes.Mark m) = None
 slot_of (changes.StateAsk a) = None
 slot_of (changes.StateOffer o) = None
 slot_of (changes.StatePart p) = None
+slot_of (changes.ViewTold i) = None
 
 -- the mark that a message is, if it is one
 abbrev pub mark_in : Message → Option (SignedBy Mark)
@@ -326,6 +343,7 @@ mark_in (changes.Mark m) = Some m
 mark_in (changes.StateAsk a) = None
 mark_in (changes.StateOffer o) = None
 mark_in (changes.StatePart p) = None
+mark_in (changes.ViewTold i) = None
 
 -- the decided batch that a message shows, if it does
 abbrev pub decision_in : Message → Option ProvenBatch
@@ -341,6 +359,7 @@ decision_in (changes.Mark m) = None
 decision_in (changes.StateAsk a) = None
 decision_in (changes.StateOffer o) = None
 decision_in (changes.StatePart p) = None
+decision_in (changes.ViewTold i) = None
 
 -- the ask for others' state that a message is, if it is one
 abbrev pub state_ask_in : Message → Option StateAsk
@@ -356,6 +375,7 @@ state_ask_in (changes.Mark m) = None
 state_ask_in (changes.StateAsk a) = Some a
 state_ask_in (changes.StateOffer o) = None
 state_ask_in (changes.StatePart p) = None
+state_ask_in (changes.ViewTold i) = None
 
 -- the offer that a message is, if it is one
 abbrev pub offer_in : Message → Option StateOffer
@@ -371,6 +391,23 @@ offer_in (changes.Mark m) = None
 offer_in (changes.StateAsk a) = None
 offer_in (changes.StateOffer o) = Some o
 offer_in (changes.StatePart p) = None
+offer_in (changes.ViewTold i) = None
+
+-- the statement of a view that a message is, if it is one
+abbrev pub view_told_in : Message → Option (SignedBy ViewInfo)
+view_told_in (Ask q) = None
+view_told_in (Propose p) = None
+view_told_in (Vote b) = None
+view_told_in (changes.Stop s) = None
+view_told_in (changes.StopData r) = None
+view_told_in (changes.Sync s) = None
+view_told_in (changes.Decision d) = None
+view_told_in (Reply a) = None
+view_told_in (changes.Mark m) = None
+view_told_in (changes.StateAsk a) = None
+view_told_in (changes.StateOffer o) = None
+view_told_in (changes.StatePart p) = None
+view_told_in (changes.ViewTold i) = Some i
 
 -- the batch of a PROPOSE or of a DECISION, or of the lock in a STOPDATA
 abbrev pub batch_in : Message → Option Batch
@@ -386,6 +423,7 @@ batch_in (changes.Mark m) = None
 batch_in (changes.StateAsk a) = None
 batch_in (changes.StateOffer o) = None
 batch_in (changes.StatePart p) = None
+batch_in (changes.ViewTold i) = None
 
 -- a value that is there and passes a test
 abbrev pub some_of : {A : Type 0} → (A → Bool) → Option A → Bool
@@ -474,6 +512,7 @@ own (changes.Mark m) = Marked m ∷ []
 own (changes.StateAsk a) = []
 own (changes.StateOffer o) = map Marked o.marks
 own (changes.StatePart p) = []
+own (changes.ViewTold i) = Informed i ∷ []
 
 -- the votes that a message shows: those of a DECISION
 abbrev pub proof_in : Option ProvenBatch → List Statement

@@ -9,10 +9,10 @@ ghost use Rattle.smart_statements.specs.Reading.{batch_at};
 ghost use Rattle.smart_statements.specs.Reports.{reports};
 ghost use Rattle.smart_statements.specs.SignedLists.{optional, optional_at};
 ghost use Rattle.smart_statements.specs.Spelling.{signed};
-ghost use Rattle.smart_messages.specs.Messages.{Fits, kind, content, spelling, ask_at, propose_at, vote_at, stop_message_at, stop_data_at, sync_message_at, decision_at, reply_at, mark_message_at, state_ask_at, state_offer_at, state_part_at, body_at, is_kind, message_kind_at, message_at, decoded};
+ghost use Rattle.smart_messages.specs.Messages.{Fits, kind, content, spelling, ask_at, propose_at, vote_at, stop_message_at, stop_data_at, sync_message_at, decision_at, reply_at, mark_message_at, state_ask_at, state_offer_at, state_part_at, view_told_at, body_at, is_kind, message_kind_at, message_at, decoded};
 
 use crate::message::{Message, Proposed};
-use crate::regency::{Reported, Stop, Sync};
+use crate::regency::{Reported, Stop, Sync, ViewInfo};
 use smart_base::cursor::Cursor;
 use smart_base::fault::{ReadError, Unread};
 use smart_base::field::put_u8;
@@ -123,6 +123,13 @@ fn read_state_part(alloc: Global, cut: &mut Cursor<'_>) -> Result<Message, ReadE
     Ok(Message::StatePart(StatePart::read(alloc, cut)?))
 }
 
+#[tactic(auto, unfolding(crate::specs::Messages::view_told_at))]
+fn read_view_told(alloc: Global, cut: &mut Cursor<'_>) -> Result<Message, ReadError>
+    ensures { Gives result cut.new (view_told_at cut.old) }
+{
+    Ok(Message::ViewTold(Signed::<ViewInfo>::read(alloc, cut)?))
+}
+
 /// Reads what comes after a message's first byte.
 #[tactic(auto, unfolding(crate::specs::Messages::body_at))]
 fn read_body(alloc: Global, kind: u8, cut: &mut Cursor<'_>) -> Result<Message, ReadError>
@@ -140,7 +147,8 @@ fn read_body(alloc: Global, kind: u8, cut: &mut Cursor<'_>) -> Result<Message, R
         9 => read_mark(alloc, cut),
         10 => read_state_ask(cut),
         11 => read_state_offer(alloc, cut),
-        _ => read_state_part(alloc, cut),
+        12 => read_state_part(alloc, cut),
+        _ => read_view_told(alloc, cut),
     }
 }
 
@@ -148,7 +156,7 @@ fn read_body(alloc: Global, kind: u8, cut: &mut Cursor<'_>) -> Result<Message, R
 fn is_message_kind(kind: u8) -> bool
     ensures { result ≡ is_kind kind }
 {
-    1 <= kind && kind <= 12
+    1 <= kind && kind <= 13
 }
 
 #[tactic(auto, unfolding(smart_base::specs::Cuts::ranged))]
@@ -227,6 +235,7 @@ fn kind(message: &Message) -> u8
         Message::StateAsk(_) => 10,
         Message::StateOffer(_) => 11,
         Message::StatePart(_) => 12,
+        Message::ViewTold(_) => 13,
     }
 }
 
@@ -282,6 +291,7 @@ fn put_content(out: &mut Vec<u8>, message: &Message) -> Result<(), AllocError>
         Message::StateAsk(ask) => ask.put(out),
         Message::StateOffer(offer) => offer.put(out),
         Message::StatePart(part) => part.put(out),
+        Message::ViewTold(info) => info.put(out),
     }
 }
 

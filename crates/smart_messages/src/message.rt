@@ -5,7 +5,7 @@ ghost use Rattle.std.specs.Option.{option_copied};
 ghost use Rattle.smart_messages.specs.Messages.{request_in, proposal_in, vote_in, report_in, mark_in, decision_in, slot_of, batch_in, sealed, sealed_of, statements_in, parts_of_evidence, parts_of_lock, in_report, requests_of};
 
 use crate::party::signer_of;
-use crate::regency::{Reported, Stop, Sync};
+use crate::regency::{Reported, Stop, Sync, ViewInfo};
 use smart_base::bytes::Tag;
 use smart_base::duplicate::Duplicate;
 use smart_base::party::Party;
@@ -54,6 +54,8 @@ pub enum Message {
     StateOffer(StateOffer),
     /// STATEPART: a member gives a part of its snapshot.
     StatePart(StatePart),
+    /// VIEWTOLD: a member tells clients the view in force (BFT-SMaRt, DSN 2014).
+    ViewTold(Signed<ViewInfo>),
 }
 
 impl Duplicate for Proposed {
@@ -80,6 +82,7 @@ impl Duplicate for Message {
             Message::StateAsk(ask) => Ok(Message::StateAsk(*ask)),
             Message::StateOffer(offer) => Ok(Message::StateOffer(offer.duplicate(alloc)?)),
             Message::StatePart(part) => Ok(Message::StatePart(part.duplicate(alloc)?)),
+            Message::ViewTold(info) => Ok(Message::ViewTold(info.duplicate(alloc)?)),
         }
     }
 }
@@ -315,6 +318,7 @@ fn stand_all(
             Ok(())
         }
         Message::StateAsk(_) | Message::StatePart(_) => Ok(()),
+        Message::ViewTold(info) => stand(alloc, info, found),
     }
 }
 

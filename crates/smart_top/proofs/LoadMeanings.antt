@@ -13,7 +13,7 @@ use Rattle.load_maker.specs.declared.line.LoadLine.{LoadLine}
 use Rattle.load_maker.specs.declared.line.LoadLine.TheVariants as lines
 use Rattle.app_count.specs.declared.Count.{Count}
 use Rattle.app_count.specs.Counts.{counting}
-use Rattle.world_rules.specs.Scripts.{with_byte, words_in, ask_line, ask_with, behind_space, client_of, is_nothing, is_printed, is_short, line_by, line_of, members_from}
+use Rattle.world_rules.specs.Scripts.{with_byte, words_in, ask_line, ask_with, behind_space, asker_of, is_nothing, is_printed, is_short, line_by, line_of, members_from}
 use Rattle.world_rules.specs.Worlds.{Host, World, begun, course_of, host_index}
 use Rattle.world_rules.specs.Plays.{Play, is_there, line_played, world_after}
 use Rattle.world_rules.specs.declared.crash.Image.TheVariants as images
@@ -133,12 +133,12 @@ words_digit : (d : ℕ) (op : List ℕ) → (d == 32) ≡ false → words_in (d 
 words_digit d op other = ap (λ t. cond t ([] ∷ [] ∷ words_in op) ((d ∷ []) ∷ words_in op)) other
 
 -- an ask of a client of one digit
-ask_when : (d client : ℕ) (op : List ℕ) → (d == 32) ≡ false → client_of (d ∷ []) ≡ Some client → nat_le (length op) 4096 ≡ true
+ask_when : (d client : ℕ) (op : List ℕ) → (d == 32) ≡ false → asker_of (d ∷ []) ≡ Some client → nat_le (length op) 4096 ≡ true
     → line_by (97 ∷ 115 ∷ 107 ∷ 32 ∷ d ∷ 32 ∷ op) (words_in (97 ∷ 115 ∷ 107 ∷ 32 ∷ d ∷ 32 ∷ op)) ≡ Ok (plain.Ask client op)
 ask_when d client op other is short =
     let bytes : List ℕ = 97 ∷ 115 ∷ 107 ∷ 32 ∷ d ∷ 32 ∷ op in
     ap (λ ws. ask_line bytes ws) (words_digit d op other ∙ ap (λ ws. (d ∷ []) ∷ ws) (first_of op).is)
-    ∙ (ap (λ o. ask_with o (client_of (d ∷ []))) (behind_digit d op other)
+    ∙ (ap (λ o. ask_with o (asker_of (d ∷ []))) (behind_digit d op other)
     ∙ (ap (λ c. ask_with op c) is ∙ ap (λ t. cond t (Ok (plain.Ask client op)) (Err kinds.Form)) short))
 
 -- the asks of the eight clients

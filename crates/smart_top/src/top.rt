@@ -217,23 +217,26 @@ where
 /// Before it stands what the parser shows of words that ask for help or for the version, or of none.
 ///
 /// A script may deliver messages in any order, lose them and repeat them. It may let time pass at any
-/// member, change the regency, and declare up to f members faulty and any clients rogue. It may crash
-/// any members, or all at once, between any two device calls, also within a switch to a checkpoint. A
-/// crash may leave any image that the model of disks allows. Whatever script is played:
+/// member, change the regency, and change the members and f by requests of the view manager
+/// (reconfiguration: BFT-SMaRt, DSN 2014). It may declare up to f members of each view faulty and any
+/// clients rogue. It may crash any members, or all at once, between any two device calls, also within
+/// a switch to a checkpoint. A crash may leave any image that the model of disks allows. Whatever
+/// script is played:
 ///
 /// - The members deliver fronts of one list of batches (state machine replication). The list only
-///   grows.
+///   grows. The view in force at a place, its members and f, follows from the list before it.
 /// - Each reply that a client accepts is the service's answer at its request's one place in that
-///   list. If the client is not rogue, that place is later than every place that it knew when it
-///   asked.
+///   list, or tells the view manager what its change came to. It names the view in force there, and a
+///   quorum of a view of that number gave it. If the client is not rogue, that place is later than
+///   every place that it knew when it asked.
 /// - Whatever crashes leave of the devices, each member restarts from a front of that list: from its
 ///   newest checkpoint and the log after it. Neither is damaged. Of what was firm each entry is left,
 ///   or a checkpoint or a greater promise that stands for it.
 /// - The place of each accepted reply is kept: whatever crashes leave of all devices at once, more
-///   than f correct members restore it or a later one.
+///   than f correct members of the view in force there restore it or a later one.
 ///
 /// The premises are checked. A crash with another image ends the play. A forged statement, a
-/// collision of digests, and one faulty member too many end it too.
+/// collision of digests, and one faulty member of a view too many end it too.
 pub fn run<
     H: Threads + Wait + Sync,
     I: Source + Send,

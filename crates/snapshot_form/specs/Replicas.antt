@@ -8,6 +8,7 @@ use Rattle.smart_statements.specs.Batches.{Batch, FitsBatch}
 use Rattle.smart_service.specs.Tables.{Ascends}
 use Rattle.smart_service.specs.declared.replica.Replica.{Replica}
 use Rattle.smart_service.specs.declared.table.TableLine.{TableLine}
+use Rattle.replica_rules.specs.Seals.{is_alone}
 
 -- the view behind one of this number and start, in a replica at a place: it starts later, and not past the place that comes next
 abbrev pub is_next_view : ℕ → ℕ → ℕ → View → Bool
@@ -46,6 +47,7 @@ pub record FitsReplica {S : Type 0} (valid : S → Type 0) (r : Replica S) : Typ
   pub lines_in_turn : Ascends r.table
   pub service_fits : valid r.service
 
--- a batch whose clients there are, and which has a spelling: a replica that has a snapshot may execute it
+-- A batch whose clients there are, in which a request of the view manager stands alone, and which has a spelling: a replica that has a snapshot
+-- may execute it.
 abbrev pub IsOfClients : Batch → Type 0
-IsOfClients batch = FitsBatch batch × Each (λ q. q.statement.client ≤ LAST_CLIENT) batch
+IsOfClients batch = FitsBatch batch × Each (λ q. q.statement.client ≤ LAST_CLIENT) batch × (is_alone batch ≡ true)

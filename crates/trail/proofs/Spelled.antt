@@ -15,7 +15,7 @@ use Rattle.smart_messages.specs.Messages.{spelling, decoded, Fits}
 use Rattle.smart_messages.specs.declared.message.Message.{Message}
 use Rattle.smart_messages.proofs.Messages.{decoded_is, spelling_is}
 use Rattle.node_rules.specs.declared.node.Target.{Target}
-use Rattle.node_rules.specs.declared.node.Target.TheVariants.{Node, Client, View}
+use Rattle.node_rules.specs.declared.node.Target.TheVariants.{Node, Client, View, Clients}
 use Rattle.trail.specs.Events.{target_kind, target_id, is_one, addressed_text, FitsAddressed, is_target, is_id, target_of, target_kind_at, target_id_at, message_left, addressed_at, event_kind, event_content, event_text, FitsEvent, is_event_kind, event_kind_at, alone_at, number_left, lost_at, content_at, event_at, event_decoded}
 use Rattle.trail.specs.declared.event.Addressed.{Addressed}
 use Rattle.trail.specs.declared.event.TrailEvent.{TrailEvent}
@@ -25,35 +25,41 @@ use Rattle.trail.proofs.Filled.{Filled, refill, whole_filled, then_filled, last_
 -- ---- receivers
 
 -- a kind and a number that are a receiver's are those of that receiver
-known_by : (one two three zero : Bool) (k i : ℕ) → (one ≡ true → k ≡ 1) → (two ≡ true → k ≡ 2) → (three ≡ true → k ≡ 3) → (zero ≡ true → i ≡ 0)
-    → (one || two || three) ≡ true → (one || two || zero) ≡ true
-    → (target_kind (cond one (Node i) (cond two (Client i) View)) ≡ k) × (target_id (cond one (Node i) (cond two (Client i) View)) ≡ i)
-known_by true two three zero k i p q r s kind id = (sym (p refl), refl)
-known_by false true three zero k i p q r s kind id = (sym (q refl), refl)
-known_by false false three zero k i p q r s kind id = (sym (r kind), sym (s id))
+known_by : (one two three four zero : Bool) (k i : ℕ) → (one ≡ true → k ≡ 1) → (two ≡ true → k ≡ 2) → (three ≡ true → k ≡ 3) → (four ≡ true → k ≡ 4) → (zero ≡ true → i ≡ 0)
+    → (one || two || three || four) ≡ true → (one || two || zero) ≡ true
+    → (target_kind (cond one (Node i) (cond two (Client i) (cond three View Clients))) ≡ k) × (target_id (cond one (Node i) (cond two (Client i) (cond three View Clients))) ≡ i)
+known_by true two three four zero k i p q r s t kind id = (sym (p refl), refl)
+known_by false true three four zero k i p q r s t kind id = (sym (q refl), refl)
+known_by false false true four zero k i p q r s t kind id = (sym (r refl), sym (t id))
+known_by false false false four zero k i p q r s t kind id = (sym (s kind), sym (t id))
 
 known : (k i : ℕ) → is_target k ≡ true → is_id k i ≡ true → (target_kind (target_of k i) ≡ k) × (target_id (target_of k i) ≡ i)
-known k i kind id = known_by (eqb k 1) (eqb k 2) (eqb k 3) (eqb i 0) k i (eqb-true k 1) (eqb-true k 2) (eqb-true k 3) (eqb-true i 0) kind id
+known k i kind id =
+    known_by (eqb k 1) (eqb k 2) (eqb k 3) (eqb k 4) (eqb i 0) k i (eqb-true k 1) (eqb-true k 2) (eqb-true k 3) (eqb-true k 4) (eqb-true i 0) kind id
 
 back : (t : Target) → target_of (target_kind t) (target_id t) ≡ t
 back (Node member) = refl
 back (Client client) = refl
 back View = refl
+back Clients = refl
 
 is-target : (t : Target) → is_target (target_kind t) ≡ true
 is-target (Node member) = refl
 is-target (Client client) = refl
 is-target View = refl
+is-target Clients = refl
 
 is-id : (t : Target) → is_id (target_kind t) (target_id t) ≡ true
 is-id (Node member) = refl
 is-id (Client client) = refl
 is-id View = refl
+is-id Clients = refl
 
 small-kind : (t : Target) → target_kind t < 2 ^ 8
 small-kind (Node member) = omega arith
 small-kind (Client client) = omega arith
 small-kind View = omega arith
+small-kind Clients = omega arith
 
 -- ---- a message and who receives it
 

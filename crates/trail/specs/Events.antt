@@ -7,29 +7,32 @@ use Rattle.smart_statements.specs.declared.entry.NodeEvent.TheVariants.{Arrive, 
 use Rattle.smart_messages.specs.Messages.{spelling, decoded, Fits}
 use Rattle.smart_messages.specs.declared.message.Message.{Message}
 use Rattle.node_rules.specs.declared.node.Target.{Target}
-use Rattle.node_rules.specs.declared.node.Target.TheVariants.{Node, Client, View}
+use Rattle.node_rules.specs.declared.node.Target.TheVariants.{Node, Client, View, Clients}
 use Rattle.trail.specs.declared.event.Addressed.{Addressed}
 use Rattle.trail.specs.declared.event.TrailEvent.{TrailEvent}
 use Rattle.trail.specs.declared.event.TrailEvent.TheVariants.{Happens, Send, Lost, Polls, End}
 
 -- ---- who receives a message, and the message
 
--- a receiver's kind and number. All members of a view have the number 0.
+-- a receiver's kind and number. All members of a view have the number 0, and so have all clients.
 abbrev pub target_kind : Target → ℕ
 target_kind (Node member) = 1
 target_kind (Client client) = 2
 target_kind View = 3
+target_kind Clients = 4
 
 abbrev pub target_id : Target → ℕ
 target_id (Node member) = member
 target_id (Client client) = client
 target_id View = 0
+target_id Clients = 0
 
--- one receiver, and no view
+-- one receiver, and neither a view nor all clients
 abbrev pub is_one : Target → Bool
 is_one (Node member) = true
 is_one (Client client) = true
 is_one View = false
+is_one Clients = false
 
 -- The bytes of a message and of who receives it.
 unfoldable pub addressed_text : Addressed → List ℕ
@@ -39,15 +42,15 @@ pub record FitsAddressed (a : Addressed) : Type 0 where
   pub id_fits : target_id a.to < 2 ^ 16
   pub message_fits : Fits a.message
 
--- a kind of receiver. INTERIM(views): none stands for all clients.
+-- a kind of receiver
 abbrev pub is_target : ℕ → Bool
-is_target kind = kind == 1 || kind == 2 || kind == 3
+is_target kind = kind == 1 || kind == 2 || kind == 3 || kind == 4
 
 abbrev pub is_id : ℕ → ℕ → Bool
 is_id kind id = kind == 1 || kind == 2 || id == 0
 
 abbrev pub target_of : ℕ → ℕ → Target
-target_of kind id = if kind == 1 then Node id else if kind == 2 then Client id else View
+target_of kind id = if kind == 1 then Node id else if kind == 2 then Client id else if kind == 3 then View else Clients
 
 abbrev pub target_kind_at : Cut → Read ℕ
 target_kind_at = ranged is_target (number_at w8)

@@ -15,11 +15,11 @@ use smart_messages::message::Message;
 use smart_statements::entry::NodeEvent;
 use std::alloc::{AllocError, Global};
 
-/// Whether a byte is the kind of a receiver. INTERIM(views): no kind stands for all clients.
+/// Whether a byte is the kind of a receiver.
 fn is_target(kind: u8) -> bool
     ensures { result ≡ is_target kind }
 {
-    kind == 1 || kind == 2 || kind == 3
+    kind == 1 || kind == 2 || kind == 3 || kind == 4
 }
 
 /// Whether a receiver of this kind has this number.
@@ -36,8 +36,10 @@ fn target_of(kind: u8, id: u16) -> Target
         Target::Node(MemberId::new(id))
     } else if kind == 2 {
         Target::Client(ClientId::new(id))
-    } else {
+    } else if kind == 3 {
         Target::View
+    } else {
+        Target::Clients
     }
 }
 
@@ -91,7 +93,7 @@ fn read_addressed(alloc: Global, cut: &mut Cursor<'_>) -> Result<Addressed, Read
     })
 }
 
-/// Whether this is one receiver, and no view.
+/// Whether this is one receiver, and neither a view nor all clients.
 fn is_one(to: Target) -> bool
     ensures { result ≡ is_one to }
 {
@@ -99,6 +101,7 @@ fn is_one(to: Target) -> bool
         Target::Node(_) => true,
         Target::Client(_) => true,
         Target::View => false,
+        Target::Clients => false,
     }
 }
 
@@ -211,6 +214,7 @@ fn target_kind(to: Target) -> u8
         Target::Node(_) => 1,
         Target::Client(_) => 2,
         Target::View => 3,
+        Target::Clients => 4,
     }
 }
 
@@ -221,6 +225,7 @@ fn target_id(to: Target) -> u16
         Target::Node(member) => member.get(),
         Target::Client(client) => client.get(),
         Target::View => 0,
+        Target::Clients => 0,
     }
 }
 

@@ -1,8 +1,9 @@
 -- The law over the service that openings name.
-use Rattle.std.proofs.Common.{◌≡◌, ℕ, Bool, false, true, filter, length, List, [], ◌∷◌, refl, ap, sym, ◌∙◌, subst, arith, None}
+use Rattle.std.proofs.Common.{◌≡◌, ℕ, zero, suc, Bool, false, true, filter, length, List, [], ◌∷◌, refl, ap, sym, ◌∙◌, subst, arith, None, Some}
 use Rattle.smart_base.specs.Lists.{Each}
 use Rattle.smart_base.specs.Views.{View, is_view}
-use Rattle.smart_base.proofs.ViewFacts.{each-weaken, view_parts}
+use Rattle.smart_base.proofs.ViewFacts.{each-weaken}
+use Rattle.smart_statements.specs.Batches.{Batch}
 use Rattle.smart_messages.specs.Messages.{decoded}
 use Rattle.app_count.specs.Counts.{counting, IsSum}
 use Rattle.app_count.specs.Replies.{brief_replies as brief_sums}
@@ -12,8 +13,9 @@ use Rattle.app_kv.specs.Replies.{brief_replies as brief_values}
 use Rattle.app_kv.specs.Stores.{IsStore}
 use Rattle.app_kv.specs.States.{first_store, next_store}
 use Rattle.app_kv.specs.Restored.{valid_store, restored_store, short_snapshot as short_store, one_snapshot as one_store}
+use Rattle.smart_service.specs.Services.{Meaning}
 use Rattle.vote_book.specs.Books.{Among}
-use Rattle.agreement_laws.specs.Law.{FewFaulty}
+use Rattle.replica_rules.specs.Replicas.{batch_at}
 use Rattle.agreement_laws.proofs.Lists.{each_among}
 use Rattle.replica_laws.proofs.Small.{IsBrief, brief_where}
 use Rattle.trail.specs.declared.opening.App.{App}
@@ -22,9 +24,10 @@ use Rattle.audit_rules.specs.declared.recorded.Recorded.{Recorded}
 use Rattle.trail_rules.specs.Replays.{arrivals}
 use Rattle.audit_rules.specs.Audits.{CanBegin, damage_by, is_client, sealed_in}
 use Rattle.audit_rules.specs.Coherence.{AreSent, Coherent, Fresh, IsFresh, IsReplayed, IsSent, LeavesBy, first_snapshot}
-use Rattle.trail_agreement.specs.Deliveries.{AreSpelled, NoCollisionBy, OneListBy}
+use Rattle.trail_agreement.specs.Deliveries.{AreSpelled, FewInEach, FewInEachBy, NoCollisionBy, OneListBy}
 use Rattle.trail_agreement.specs.Excuses.{AreSentBut, CoherentBut, IsSentBut, nobody}
-use Rattle.trail_agreement.proofs.OneList.{IsOver, one_list_over}
+use Rattle.trail_agreement.proofs.Group.{IsOver}
+use Rattle.trail_agreement.proofs.OneList.{one_list_over}
 
 sums_are_brief : IsBrief counting
 sums_are_brief = brief_where counting IsSum first_sum next_sum valid_sum brief_sums short_sum restored_sum one_sum
@@ -64,20 +67,44 @@ module _ (faulty : ℕ → Bool) (trails : List Recorded) (spelled : AreSpelled 
     first = (fresh_of apps.Kv each t there).book member;
   }
 
-  one_by : (app : App) → FewFaulty view faulty → is_view view ≡ true → Freshly app → NoCollisionBy app trails → OneListBy app trails
+  one_by : (app : App) → FewInEachBy app faulty view trails → is_view view ≡ true → Freshly app → NoCollisionBy app trails → OneListBy app trails
   one_by apps.Count few viewed each apart =
-      one_list_over counting sums_are_brief faulty trails secret view few viewed spelled coherent.sent (λ t there. (fresh_of apps.Count each t there).secret_is) (λ t there. (fresh_of apps.Count each t there).view_is)
-      (over_count each) apart
+      one_list_over counting faulty trails secret view
+      (record {
+        brief = sums_are_brief;
+        viewed = viewed;
+        spelled = spelled;
+        sent = coherent.sent;
+        secrets = λ t there. (fresh_of apps.Count each t there).secret_is;
+        views = λ t there. (fresh_of apps.Count each t there).view_is;
+        over = over_count each;
+        few = few;
+        apart = apart;
+      })
   one_by apps.Kv few viewed each apart =
-      one_list_over keeping values_are_brief faulty trails secret view few viewed spelled coherent.sent (λ t there. (fresh_of apps.Kv each t there).secret_is) (λ t there. (fresh_of apps.Kv each t there).view_is)
-      (over_kv each) apart
+      one_list_over keeping faulty trails secret view
+      (record {
+        brief = values_are_brief;
+        viewed = viewed;
+        spelled = spelled;
+        sent = coherent.sent;
+        secrets = λ t there. (fresh_of apps.Kv each t there).secret_is;
+        views = λ t there. (fresh_of apps.Kv each t there).view_is;
+        over = over_kv each;
+        few = few;
+        apart = apart;
+      })
 
 -- no runs deliver the empty list
-none_by : (app : App) → OneListBy app []
-none_by apps.Count = record { list = []; decided = λ place some low. absurd (omega (arith, some, low)); members = tt }
-none_by apps.Kv = record { list = []; decided = λ place some low. absurd (omega (arith, some, low)); members = tt }
+none_at : (place : ℕ) (batch : Batch) → batch_at [] place ≡ Some batch → ⊥
+none_at zero batch at = cc
+none_at (suc k) batch at = cc
 
-pub one_list_but : (faulty : ℕ → Bool) (trails : List Recorded) → AreSpelled trails → CoherentBut faulty trails → (fresh : Fresh trails) → FewFaulty fresh.view faulty → NoCollisionBy fresh.app trails
+none_by : (app : App) → OneListBy app []
+none_by apps.Count = record { list = []; decided = λ place batch at. absurd (none_at place batch at); members = tt }
+none_by apps.Kv = record { list = []; decided = λ place batch at. absurd (none_at place batch at); members = tt }
+
+pub one_list_but : (faulty : ℕ → Bool) (trails : List Recorded) → AreSpelled trails → CoherentBut faulty trails → (fresh : Fresh trails) → FewInEachBy fresh.app faulty fresh.view trails → NoCollisionBy fresh.app trails
     → OneListBy fresh.app trails
 one_list_but faulty [] spelled coherent fresh few apart = none_by fresh.app
 one_list_but faulty (t ∷ ts) spelled coherent fresh few apart =
@@ -89,8 +116,12 @@ none-faulty : (members : List ℕ) → length (filter nobody members) ≡ 0
 none-faulty [] = refl
 none-faulty (x ∷ xs) = none-faulty xs
 
-few_nobody : (view : View) → is_view view ≡ true → FewFaulty view nobody
-few_nobody view viewed = let none = none-faulty view.members in record { room = (view_parts view viewed).enough; few = omega (arith, none) }
+few_nobody : {S : Type 0} (m : Meaning S) (view : View) (trails : List Recorded) → FewInEach m nobody view trails
+few_nobody m view trails = record { each = λ list decided v there. let none = none-faulty v.members in omega (arith, none) }
+
+few_nobody_by : (app : App) (view : View) (trails : List Recorded) → FewInEachBy app nobody view trails
+few_nobody_by apps.Count view trails = few_nobody counting view trails
+few_nobody_by apps.Kv view trails = few_nobody keeping view trails
 
 coherent_but : (trails : List Recorded) → Coherent trails → CoherentBut nobody trails
 coherent_but trails is = record {
@@ -103,7 +134,4 @@ coherent_but trails is = record {
 }
 
 pub one_list : (trails : List Recorded) → AreSpelled trails → Coherent trails → (fresh : Fresh trails) → NoCollisionBy fresh.app trails → OneListBy fresh.app trails
-one_list [] spelled coherent fresh apart = none_by fresh.app
-one_list (t ∷ ts) spelled coherent fresh apart =
-    one_list_but nobody (t ∷ ts) spelled (coherent_but (t ∷ ts) coherent) fresh
-    (few_nobody fresh.view (subst (λ (v : View). is_view v ≡ true) fresh.each.0.view_is spelled.each.0.view)) apart
+one_list trails spelled coherent fresh apart = one_list_but nobody trails spelled (coherent_but trails coherent) fresh (few_nobody_by fresh.app fresh.view trails) apart

@@ -1,10 +1,11 @@
 -- The node with which a fresh trail begins.
 use Rattle.std.proofs.Common.{◌≡◌, ◌⊎◌, inl, inr, ℕ, ◌&&◌, Bool, true, false, cond, List, [], ◌∷◌, Result, Ok, Err, refl, ap, sym, ◌∙◌, subst, arith, eq-eqb, Option, Some, None}
-use Rattle.smart_base.specs.Lists.{same_bytes}
+use Rattle.smart_base.specs.Lists.{Each, same_bytes}
 use Rattle.smart_base.specs.Views.{View, is_view}
 use Rattle.smart_base.proofs.SameLists.{and_true}
 use Rattle.smart_statements.specs.Spelling.{IsSigner}
 use Rattle.smart_service.specs.Services.{comes_first, Meaning}
+use Rattle.smart_service.specs.declared.replica.Replica.{Replica}
 use Rattle.snapshot_form.specs.Snapshots.{snapshot_text}
 use Rattle.vote_book.specs.Admission.{admits}
 use Rattle.vote_book.specs.Entries.{entry_decoded}
@@ -12,10 +13,10 @@ use Rattle.vote_book.specs.declared.entry.Opening.{Opening}
 use Rattle.vote_book.specs.declared.entry.LogEntry.{LogEntry}
 use Rattle.vote_book.specs.declared.entry.LogEntry.TheVariants.{Opened, Wrote, Accepted, Promised, Synced, Decided, Installed, Marked}
 use Rattle.book_laws.specs.BookCuts.{InstallUpTo}
-use Rattle.replica_rules.specs.Replicas.{empty, views_after}
+use Rattle.replica_rules.specs.Replicas.{empty, Managed, managed_of, views_after}
 use Rattle.node_rules.specs.Nodes.{Node, recording, regency_of}
 use Rattle.node_rules.specs.Steps.{Outset, outset}
-use Rattle.node_rules.specs.Reopening.{damage_at, damage_of, damaged, entries_in, is_opening, may_restore, reopened, reopened_from, rests, stopped}
+use Rattle.node_rules.specs.Reopening.{damage_at, damage_of, damaged, entries_in, is_opening, known_behind, may_restore, reopened, reopened_from, rests, stopped}
 use Rattle.agreement_laws.specs.Statements.{Statement}
 use Rattle.node_laws.specs.Restored.{IsSoundBook}
 use Rattle.node_laws.specs.Sound.{IsSound}
@@ -28,6 +29,7 @@ use Rattle.trail.specs.declared.opening.TrailOpening.{TrailOpening}
 use Rattle.audit_rules.specs.declared.recorded.Recorded.{Recorded}
 use Rattle.audit_rules.specs.Audits.{checkpoint_in, damage_over, first_node}
 use Rattle.audit_rules.specs.Coherence.{IsFirstBook}
+use Rattle.trail_agreement.proofs.Marks.{IsMarkOf}
 use Rattle.trail_agreement.proofs.Runs.{IsRight}
 
 -- ---- no checkpoint
@@ -54,7 +56,7 @@ unfolding first_node reopened_from
 first_is m t is =
     ap (λ (c : Option (List ℕ)). reopened_from m t.opening.secret t.opening.member t.opening.view t.opening.period (record { snapshot = c; entries = t.entries })) (no_checkpoint m t.opening is)
 
-undamaged : {S : Type 0} (m : Meaning S) (t : Recorded) → t.opening.snapshot ≡ snapshot_text m (empty m t.opening.view) → damage_over m t ≡ None → damaged t.opening.secret 0 t.opening.view t.entries ≡ None
+undamaged : {S : Type 0} (m : Meaning S) (t : Recorded) → t.opening.snapshot ≡ snapshot_text m (empty m t.opening.view) → damage_over m t ≡ None → damaged t.opening.secret 0 (managed_of (empty m t.opening.view)) t.entries ≡ None
 unfolding damage_of
 undamaged m t is none =
     ap (λ (c : Option (List ℕ)). damage_of m t.opening.secret t.opening.view (record { snapshot = c; entries = t.entries })) (sym (no_checkpoint m t.opening is)) ∙ none
@@ -79,11 +81,11 @@ may_by : (t : Bool) (x : Option ℕ) (n : ℕ) → cond t x (Some n) ≡ None �
 may_by true x n none = refl
 may_by false x n none = absurd (cc)
 
-first_read : (secret : List ℕ) (view : View) (bytes : List ℕ) (read : Result LogEntry ℕ) → entry_decoded bytes ≡ read → damage_at secret 0 view [] (λ entry. None) read ≡ None → AreFirst (entries_in (bytes ∷ []))
-first_read secret view bytes (Err at) is none = absurd (cc)
-first_read secret view bytes (Ok e) is none =
-    let may : may_restore secret 0 view [] e ≡ true = may_by (may_restore secret 0 view [] e) None 1 none in
-    let both = and_true (is_opening e && admits 0 1 [] e) (rests secret view e) may in
+first_read : (secret : List ℕ) (g : Managed) (bytes : List ℕ) (read : Result LogEntry ℕ) → entry_decoded bytes ≡ read → damage_at secret 0 g [] (λ entry. None) read ≡ None → AreFirst (entries_in (bytes ∷ []))
+first_read secret g bytes (Err at) is none = absurd (cc)
+first_read secret g bytes (Ok e) is none =
+    let may : may_restore secret 0 g [] e ≡ true = may_by (may_restore secret 0 g [] e) None 1 none in
+    let both = and_true (is_opening e && admits 0 1 [] e) (rests secret (known_behind 0 g []) e) may in
     let opens = as_opening e (and_true (is_opening e) (admits 0 1 [] e) both.0).0 in
     inr (opens.0, one_read e [] (entry_decoded bytes) is ∙ ap (λ (x : LogEntry). x ∷ []) opens.1)
 
@@ -91,8 +93,8 @@ first_entries : {S : Type 0} (m : Meaning S) (t : Recorded) → t.opening.snapsh
     → AreFirst (entries_in entries)
 first_entries m t is none [] same first = inl refl
 first_entries m t is none (bytes ∷ []) same first =
-    first_read t.opening.secret t.opening.view bytes (entry_decoded bytes) refl
-    (ap (λ (es : List (List ℕ)). damaged t.opening.secret 0 t.opening.view es) (sym same) ∙ undamaged m t is none)
+    let g : Managed = managed_of (empty m t.opening.view) in
+    first_read t.opening.secret g bytes (entry_decoded bytes) refl (ap (λ (es : List (List ℕ)). damaged t.opening.secret 0 g es) (sym same) ∙ undamaged m t is none)
 first_entries m t is none (bytes ∷ (next ∷ rest)) same first = absurd first
 
 -- ---- such a node
@@ -109,7 +111,7 @@ module _ {S : Type 0} (m : Meaning S) (stated : List Statement) (secret : List �
     shared = refl;
     view = viewed;
     views = (viewed, tt);
-    regency = omega arith;
+    regency = λ number. omega arith;
     lines = tt;
     pool = tt;
     arrivals = tt;
@@ -132,13 +134,11 @@ module _ {S : Type 0} (m : Meaning S) (stated : List Statement) (secret : List �
   right-begun : (o : Opening) (restored firm : ℕ) → IsSound stated view (begun o restored firm) → IsRight m stated secret view id (begun o restored firm)
   right-begun o restored firm sound = record {
     sound = sound;
-    views = refl;
-    rests = record { held = tt; waits = tt; lines = tt };
+    rests = record { held = tt; waits = tt; lines = tt; views = tt };
     fit = fit-begun o restored firm;
     parts = tt;
     opening = refl;
     named = refl;
-    marks = record { each = (tt, tt) };
   }
 
   -- with no entry it opens its book
@@ -174,12 +174,27 @@ right-first {S = S} m stated t named viewed is none first =
     subst (λ (n : Node S). IsRight m stated t.opening.secret t.opening.view t.opening.member n) (sym (first_is m t is))
     (right-reopened m stated t.opening.secret t.opening.member t.opening.view t.opening.period named viewed (entries_in t.entries) (first_entries m t is none t.entries refl first))
 
--- nothing was delivered there
-place_by : {S : Type 0} (m : Meaning S) (o : TrailOpening) (entries : List LogEntry) → AreFirst entries → (reopened m (outset_in m o) entries).replica.place ≡ 0
-unfolding reopened
-place_by m o entries (inl none) = ap (λ (es : List LogEntry). (reopened m (outset_in m o) es).replica.place) none
-place_by m o entries (inr one) = ap (λ (es : List LogEntry). (reopened m (outset_in m o) es).replica.place) one.1
+-- its replica is the empty one, and its book has no mark
+module _ {S : Type 0} (m : Meaning S) (o : TrailOpening) where
+  replica_by : (entries : List LogEntry) → AreFirst entries → (reopened m (outset_in m o) entries).replica ≡ empty m o.view
+  unfolding reopened
+  replica_by entries (inl none) = ap (λ (es : List LogEntry). (reopened m (outset_in m o) es).replica) none
+  replica_by entries (inr one) = ap (λ (es : List LogEntry). (reopened m (outset_in m o) es).replica) one.1
+
+  unmarked_by : (R : Replica S → Type 0) (entries : List LogEntry) → AreFirst entries → Each (IsMarkOf m R) (reopened m (outset_in m o) entries).entries
+  unfolding reopened
+  unmarked_by R entries (inl none) = subst (λ (es : List LogEntry). Each (IsMarkOf m R) (reopened m (outset_in m o) es).entries) (sym none) (tt, tt)
+  unmarked_by R entries (inr one) = subst (λ (es : List LogEntry). Each (IsMarkOf m R) (reopened m (outset_in m o) es).entries) (sym one.1) (tt, tt)
+
+pub first_replica : {S : Type 0} (m : Meaning S) (t : Recorded) → t.opening.snapshot ≡ snapshot_text m (empty m t.opening.view) → damage_over m t ≡ None → IsFirstBook t.entries
+    → (first_node m t).replica ≡ empty m t.opening.view
+first_replica {S = S} m t is none first =
+    ap (λ (n : Node S). n.replica) (first_is m t is) ∙ replica_by m t.opening (entries_in t.entries) (first_entries m t is none t.entries refl first)
+
+pub first_unmarked : {S : Type 0} (m : Meaning S) (R : Replica S → Type 0) (t : Recorded) → t.opening.snapshot ≡ snapshot_text m (empty m t.opening.view) → damage_over m t ≡ None → IsFirstBook t.entries
+    → Each (IsMarkOf m R) (first_node m t).entries
+first_unmarked {S = S} m R t is none first =
+    subst (λ (n : Node S). Each (IsMarkOf m R) n.entries) (sym (first_is m t is)) (unmarked_by m t.opening R (entries_in t.entries) (first_entries m t is none t.entries refl first))
 
 pub first_place : {S : Type 0} (m : Meaning S) (t : Recorded) → t.opening.snapshot ≡ snapshot_text m (empty m t.opening.view) → damage_over m t ≡ None → IsFirstBook t.entries → (first_node m t).replica.place ≡ 0
-first_place {S = S} m t is none first =
-    ap (λ (n : Node S). n.replica.place) (first_is m t is) ∙ place_by m t.opening (entries_in t.entries) (first_entries m t is none t.entries refl first)
+first_place {S = S} m t is none first = ap (λ (r : Replica S). r.place) (first_replica m t is none first)

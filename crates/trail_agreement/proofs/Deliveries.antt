@@ -1,8 +1,8 @@
 -- What a member delivers it has decided, one place after the other.
-use Rattle.std.proofs.Common.{◌≡◌, true, ℕ, List, [], ◌∷◌, ◌++◌, ap, sym, ◌∙◌, subst, Option, Some}
+use Rattle.std.proofs.Common.{ℕ, List, [], ◌∷◌, ◌++◌, ap, sym, ◌∙◌, subst, Option, Some}
 use Rattle.std.specs.List.{flat_map}
 use Rattle.smart_base.specs.Lists.{Each}
-use Rattle.smart_base.specs.Views.{View, is_view}
+use Rattle.smart_base.specs.Views.{View}
 use Rattle.smart_base.proofs.ViewFacts.{each-weaken}
 use Rattle.smart_statements.specs.Batches.{Batch}
 use Rattle.smart_statements.specs.declared.entry.NodeEvent.{NodeEvent}
@@ -33,7 +33,7 @@ use Rattle.trail_agreement.proofs.Runs.{IsRight, MayArrive, grows-replay, right-
 abbrev pub IsOf : List LogEntry → Delivery → Type 0
 IsOf es d = HasDecided es d.place d.batch
 
-decided_longer : (xs ys : List LogEntry) (place : ℕ) (batch : Batch) → Longer xs ys → HasDecided xs place batch → HasDecided ys place batch
+pub decided_longer : (xs ys : List LogEntry) (place : ℕ) (batch : Batch) → Longer xs ys → HasDecided xs place batch → HasDecided ys place batch
 decided_longer xs ys place batch longer is =
     record {
       decision = is.decision;
@@ -78,15 +78,15 @@ module _ {S : Type 0} (m : Meaning S) where
   counted-from n s [] is = is
   counted-from n s (e ∷ events) is = counted-from (after (node_step m) n e) (segment_behind m n s e) events (counted-behind m n s e is)
 
-module _ {S : Type 0} (m : Meaning S) (brief : IsBrief m) (stated : List Statement) (secret : List ℕ) (view : View) (viewed : is_view view ≡ true) (id : ℕ) where
+module _ {S : Type 0} (m : Meaning S) (brief : IsBrief m) (stated : List Statement) (secret : List ℕ) (view : View) (id : ℕ) where
   pub delivered-from : (n : Node S) (s : Segment) (events : List TrailEvent) → IsRight m stated secret view id n → Each (MayArrive stated secret) events
       → Each (IsOf (replay (node_step m) n events).entries) (all_of s) → Each (IsOf (replay (node_step m) n events).entries) (all_of (segment_from m n s events))
   delivered-from n s [] is may each = each
   delivered-from n s (e ∷ events) is may each =
       let next : Node S = after (node_step m) n e in
       let es : List LogEntry = (replay (node_step m) next events).entries in
-      delivered-from next (segment_behind m n s e) events (right-after m brief stated secret view viewed id n e is may.0) may.1
-      (delivered-behind m n s e es is.rests (grows-replay m brief stated secret view viewed id n (e ∷ events) is may) each)
+      delivered-from next (segment_behind m n s e) events (right-after m brief stated secret view id n e is may.0) may.1
+      (delivered-behind m n s e es is.rests (grows-replay m brief stated secret view id n (e ∷ events) is may) each)
 
 -- ---- of a list
 

@@ -1,8 +1,7 @@
 -- What holds of a member's node throughout its trail.
-use Rattle.world_laws.proofs.Views.{views-step}
-use Rattle.std.proofs.Common.{◌≡◌, ℕ, true, nat_le, List, [], ◌∷◌, ◌++◌, refl, ap, sym, ◌∙◌, subst, append-nil, append_assoc}
+use Rattle.std.proofs.Common.{◌≡◌, ℕ, nat_le, List, [], ◌∷◌, ◌++◌, refl, ap, sym, ◌∙◌, subst, append-nil, append_assoc}
 use Rattle.smart_base.specs.Lists.{Each}
-use Rattle.smart_base.specs.Views.{View, is_view}
+use Rattle.smart_base.specs.Views.{View}
 use Rattle.smart_statements.specs.declared.entry.NodeEvent.{NodeEvent}
 use Rattle.smart_statements.specs.declared.entry.NodeEvent.TheVariants.{Arrive, Tick, Deliver, Firm}
 use Rattle.smart_service.specs.Services.{Meaning}
@@ -25,19 +24,15 @@ use Rattle.replica_laws.proofs.Small.{IsBrief}
 use Rattle.trail.specs.declared.event.TrailEvent.{TrailEvent}
 use Rattle.trail.specs.declared.event.TrailEvent.TheVariants.{Happens, Send, Lost, Polls, End}
 use Rattle.trail_rules.specs.Replays.{node_step, one_left, after, replay}
-use Rattle.trail_agreement.proofs.Marks.{MarksDecided, marks-step}
 
--- what holds of a node, by what has been stated, in a group of a secret and a view
+-- what holds of a node, by what has been stated, in a group of a secret that begins with a view
 pub record IsRight {S : Type 0} (m : Meaning S) (stated : List Statement) (secret : List ℕ) (view : View) (id : ℕ) (n : Node S) : Type 0 where
   pub sound : IsSound stated view n
-  -- INTERIM(views): it knows one view
-  pub views : n.replica.views ≡ view ∷ []
   pub rests : NodeRests n
   pub fit : FitNode m secret n
   pub parts : ArePartsBytes n.fetch
   pub opening : n.opening ≡ 0
   pub named : n.id ≡ id
-  pub marks : MarksDecided n.entries
 
 -- an event that may come: bytes of which all that stands in them and verifies has been stated
 abbrev pub MayArrive : List Statement → List ℕ → TrailEvent → Type 0
@@ -90,33 +85,29 @@ told_entries n Tick = refl
 told_entries n Deliver = refl
 told_entries n (Firm count) = refl
 
-module _ {S : Type 0} (m : Meaning S) (brief : IsBrief m) (stated : List Statement) (secret : List ℕ) (view : View) (viewed : is_view view ≡ true) (id : ℕ) where
+module _ {S : Type 0} (m : Meaning S) (brief : IsBrief m) (stated : List Statement) (secret : List ℕ) (view : View) (id : ℕ) where
   -- an event of the node keeps it
   right-step : (n : Node S) (event : NodeEvent) → IsRight m stated secret view id n → IsStatedEvent secret stated event → IsByteEvent event → IsRight m stated secret view id (step_of m n event).node
   right-step n event is was bytes =
       let onward = onward-step m n event is.rests in
       record {
         sound = sound_step m stated view n event is.sound (subst (λ (k : List ℕ). IsStatedEvent k stated event) (sym is.fit.shared) was);
-        views = views-step m n event ∙ is.views;
         rests = onward.rests;
         fit = fit-step secret m brief n event (event-fits event bytes).0 (event-settles m brief n event bytes is.parts) is.fit;
         parts = parts-step m n event (event-fits event bytes).1 is.parts;
         opening = opening-step m n event ∙ is.opening;
         named = onward.id ∙ (told_named n event ∙ is.named);
-        marks = marks-step m n event is.rests.waits is.marks;
       }
 
   -- so does a message that leaves
   right-left : (n : Node S) → IsRight m stated secret view id n → IsRight m stated secret view id (one_left n)
   right-left n is = record {
     sound = sound-left stated view n is.sound;
-    views = is.views;
-    rests = record { held = each_first (HoldsRight n.id n.entries) n.firm n.held is.rests.held; waits = is.rests.waits; lines = is.rests.lines };
+    rests = record { held = each_first (HoldsRight n.id n.entries) n.firm n.held is.rests.held; waits = is.rests.waits; lines = is.rests.lines; views = is.rests.views };
     fit = fit-left secret n is.fit;
     parts = is.parts;
     opening = is.opening;
     named = is.named;
-    marks = is.marks;
   }
 
   pub right-after : (n : Node S) (e : TrailEvent) → IsRight m stated secret view id n → MayArrive stated secret e → IsRight m stated secret view id (after (node_step m) n e)
@@ -152,10 +143,10 @@ module _ {S : Type 0} (m : Meaning S) where
   grows-after n (Polls count) is = none-more n.entries
   grows-after n End is = none-more n.entries
 
-module _ {S : Type 0} (m : Meaning S) (brief : IsBrief m) (stated : List Statement) (secret : List ℕ) (view : View) (viewed : is_view view ≡ true) (id : ℕ) where
+module _ {S : Type 0} (m : Meaning S) (brief : IsBrief m) (stated : List Statement) (secret : List ℕ) (view : View) (id : ℕ) where
   pub grows-replay : (n : Node S) (events : List TrailEvent) → IsRight m stated secret view id n → Each (MayArrive stated secret) events → Longer n.entries (replay (node_step m) n events).entries
   grows-replay n [] is may = none-more n.entries
   grows-replay n (e ∷ events) is may =
       let next : Node S = after (node_step m) n e in
       longer-then n.entries next.entries (replay (node_step m) next events).entries (grows-after m n e is.rests)
-      (grows-replay next events (right-after m brief stated secret view viewed id n e is may.0) may.1)
+      (grows-replay next events (right-after m brief stated secret view id n e is may.0) may.1)

@@ -2,7 +2,7 @@
 use Rattle.std.proofs.Common.{◌≡◌, ℕ, ◌≤◌, Bool, true, false, nat_le, List, [], ◌∷◌, ◌++◌, length, take, drop, append_assoc, Result, Ok, refl, ap, sym, ◌∙◌, subst, Option, Some, None, cond}
 use Rattle.std.proofs.lemmas.List.{take-append-drop}
 use Rattle.smart_base.specs.Lists.{Each}
-use Rattle.smart_base.specs.Views.{View, is_view}
+use Rattle.smart_base.specs.Views.{View}
 use Rattle.smart_messages.specs.Messages.{spelling, decoded, Fits}
 use Rattle.smart_messages.specs.declared.message.Message.{Message}
 use Rattle.smart_messages.proofs.Messages.{spelling_is}
@@ -71,7 +71,7 @@ first_there P firm (x ∷ xs) h each is = by (nat_le x.needs firm) is
     by true same = subst P (some_equal x h same) each.0
     by false same = absurd (cc)
 
-module _ {S : Type 0} (m : Meaning S) (brief : IsBrief m) (stated : List Statement) (secret : List ℕ) (view : View) (viewed : is_view view ≡ true) (id : ℕ) where
+module _ {S : Type 0} (m : Meaning S) (brief : IsBrief m) (stated : List Statement) (secret : List ℕ) (view : View) (id : ℕ) where
   rests_send : (n : Node S) (a : Addressed) → IsRight m stated secret view id n → Fits a.message → IsNext n (Send a) → RestsOn n.entries a.message
   rests_send n a is fits next =
       rests_released secret n.id n.entries a (first_leaving n.firm n.held)
@@ -105,8 +105,8 @@ module _ {S : Type 0} (m : Meaning S) (brief : IsBrief m) (stated : List Stateme
   sends_rest n [] is may leaves fits = tt
   sends_rest n (e ∷ events) is may leaves fits =
       let next : Node S = after (node_step m) n e in
-      let right : IsRight m stated secret view id next = right-after m brief stated secret view viewed id n e is may.0 in
+      let right : IsRight m stated secret view id next = right-after m brief stated secret view id n e is may.0 in
       let last : List LogEntry = (replay (node_step m) next events).entries in
       each_sent n e events last is leaves.0
-      (longer-both n.entries next.entries last (grows-after m n e is.rests) (grows-replay m brief stated secret view viewed id next events right may.1)) fits
+      (longer-both n.entries next.entries last (grows-after m n e is.rests) (grows-replay m brief stated secret view id next events right may.1)) fits
       (sends_rest next events right may.1 leaves.1 (fit_rest e events fits))

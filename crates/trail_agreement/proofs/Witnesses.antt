@@ -1,6 +1,4 @@
 -- The books of coherent runs witness what has been stated.
-use Rattle.smart_base.proofs.ViewFacts.{each-weaken}
-use Rattle.node_laws.specs.Sound.{IsBackedIn}
 use Rattle.std.proofs.Common.{◌≡◌, inl, inr, ℕ, ◌≤◌, ◌==◌, Bool, true, false, cond, ◌||◌, List, [], ◌∷◌, ◌++◌, refl, ap, sym, ◌∙◌, subst, arith, eqb-true, eq-eqb}
 use Rattle.std.specs.Prelude.{if◌then◌else◌, map}
 use Rattle.std.specs.List.{list_any}
@@ -14,11 +12,11 @@ use Rattle.agreement_laws.specs.Certificates.{IsBacked}
 use Rattle.agreement_laws.specs.Diaries.{IsShown}
 use Rattle.agreement_laws.specs.Law.{FewFaulty, IsCorrect, Witnessed}
 use Rattle.agreement_laws.proofs.Lists.{each_among, number_among}
-use Rattle.node_laws.specs.Restored.{IsSoundBook}
 use Rattle.replica_laws.specs.Sending.{RestsOn}
 use Rattle.trail.specs.declared.event.Addressed.{Addressed}
 use Rattle.trail_rules.specs.Replays.{sends}
 use Rattle.audit_rules.specs.declared.recorded.Recorded.{Recorded}
+use Rattle.audit_rules.specs.Audits.{is_client}
 use Rattle.trail_agreement.specs.Deliveries.{number_of}
 use Rattle.trail_agreement.proofs.Shown.{MayCome, all_stated, stated_closed, stated_shown}
 
@@ -90,27 +88,25 @@ some_member view member viewed within =
     by true is low = let zero = eqb-true member 0 is in absurd (omega (arith, zero, low))
     by false is low = is
 
--- books of members that are sound, and on which all that was sent rests. INTERIM(views): one view is in force throughout.
-pub record AreSound (secret : List ℕ) (view : View) (trails : List Recorded) (book : Recorded → List LogEntry) : Type 0 where
-  pub sound : (t : Recorded) → Among t trails → (t.opening.member == 0) ≡ false → IsSoundBook secret (all_stated secret trails) (view ∷ []) (book t)
-  pub rests : (t : Recorded) → Among t trails → (t.opening.member == 0) ≡ false → Each (λ (a : Addressed). RestsOn (book t) a.message) (sends t.events)
+-- books of members, each lawful and resting in a view on what has been stated, and on which all that was sent rests
+pub record AreBooks (secret : List ℕ) (view : View) (trails : List Recorded) (book : Recorded → List LogEntry) : Type 0 where
+  pub lawful : (t : Recorded) → Among t trails → is_client t ≡ false → Lawful 0 0 (book t)
+  pub backed : (t : Recorded) → Among t trails → is_client t ≡ false → Each (IsBacked secret digest_of view (all_stated secret trails)) (book t)
+  pub rests : (t : Recorded) → Among t trails → is_client t ≡ false → Each (λ (a : Addressed). RestsOn (book t) a.message) (sends t.events)
 
 pub witnesses : (faulty : ℕ → Bool) (secret : List ℕ) (view : View) (trails : List Recorded) (book : Recorded → List LogEntry) → FewFaulty view faulty → is_view view ≡ true → Distinct (map number_of trails) → Each (MayCome faulty trails secret) trails
-    → AreSound secret view trails book → Witnessed secret digest_of view faulty (diary_in book trails) (all_stated secret trails)
+    → AreBooks secret view trails book → Witnessed secret digest_of view faulty (diary_in book trails) (all_stated secret trails)
 witnesses faulty secret view trails book few viewed once may are =
     record {
       few = few;
-      lawful = λ member correct. by_trail book (λ (es : List LogEntry). Lawful 0 0 es) member trails none_lawful (λ t there same. (are.sound t there (no_client member correct t same)).lawful);
+      lawful = λ member correct. by_trail book (λ (es : List LogEntry). Lawful 0 0 es) member trails none_lawful (λ t there same. are.lawful t there (no_client member correct t same));
       backed = λ member correct.
-          by_trail book (λ (es : List LogEntry). Each (IsBacked secret digest_of view (all_stated secret trails)) es) member trails tt
-          (λ t there same.
-          each-weaken (IsBackedIn secret (view ∷ []) (all_stated secret trails)) (IsBacked secret digest_of view (all_stated secret trails)) (λ e is. is view (inl refl)) (book t)
-          (are.sound t there (no_client member correct t same)).backed);
+          by_trail book (λ (es : List LogEntry). Each (IsBacked secret digest_of view (all_stated secret trails)) es) member trails tt (λ t there same. are.backed t there (no_client member correct t same));
       shown = λ member correct s there who.
           let is = stated_shown faulty secret trails member s book correct.correct may (λ t at same. are.rests t at (no_client member correct t same)) there who in
           subst (λ (es : List LogEntry). IsShown digest_of es s) (sym (diary_of book trails is.0 member once is.1 is.2)) is.3;
       closed = stated_closed secret trails;
     }
   where
-    no_client : (member : ℕ) → IsCorrect view faulty member → (t : Recorded) → t.opening.member ≡ member → (t.opening.member == 0) ≡ false
+    no_client : (member : ℕ) → IsCorrect view faulty member → (t : Recorded) → t.opening.member ≡ member → is_client t ≡ false
     no_client member correct t same = ap (λ (k : ℕ). k == 0) same ∙ some_member view member viewed correct.within

@@ -83,6 +83,7 @@ fn add_posts(
         Target::Node(member) => add(alloc, member.get(), text.as_slice(), found),
         Target::Client(_) => add(alloc, 0, text.as_slice(), found),
         Target::View => add_each(alloc, members, text.as_slice(), found),
+        Target::Clients => add(alloc, 0, text.as_slice(), found),
     }
 }
 

@@ -1,18 +1,19 @@
 -- What a client sends again, by the signed request that waits.
-use Rattle.std.specs.Prelude.{ℕ, Option, Some, None}
+use Rattle.std.specs.Prelude.{ℕ, List, Option, Some, None}
+use Rattle.smart_base.specs.declared.party.Party.{Party}
 use Rattle.smart_statements.specs.Forms.{SignedBy}
 use Rattle.smart_statements.specs.declared.statement.Request.{Request}
 use Rattle.smart_messages.specs.declared.message.Message.TheVariants.{Ask}
-use Rattle.node_rules.specs.declared.node.Target.TheVariants as targets
 use Rattle.client_quorum.specs.declared.client.Client.{Client}
-use Rattle.world_rules.specs.Worlds.{World, telling, sends, client_repeats}
+use Rattle.world_rules.specs.Worlds.{World, telling, posts, client_repeats}
 use Rattle.world_rules.specs.declared.line.OutLine.TheVariants as outs
+use Rattle.world_rules.specs.declared.message.Content.TheVariants as contents
 use Rattle.world_rules.specs.declared.message.Origin.TheVariants as origins
 
--- the world after a client sent a signed request, or was told idle
-abbrev pub repeats_by : {S : Type 0} → World S → ℕ → Option (SignedBy Request) → World S
-repeats_by w id None = telling w (outs.IdleClient id)
-repeats_by w id (Some q) = sends w (origins.Client id) w.view targets.View (Ask q)
+-- the world after a client sent a signed request to some parties, or was told idle
+abbrev pub repeats_by : {S : Type 0} → World S → ℕ → List Party → Option (SignedBy Request) → World S
+repeats_by w id to None = telling w (outs.IdleClient id)
+repeats_by w id to (Some q) = posts w (record { origin = origins.Client id; to = to; content = contents.Message (Ask q) })
 
 -- the world after a client that is not rogue sent its waiting request again
 abbrev pub repeats_found : {S : Type 0} → World S → Option Client → World S

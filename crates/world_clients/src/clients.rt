@@ -2,31 +2,32 @@
 ghost use Rattle.std.specs.Prelude.{◌≡◌, ◌+◌, ◌<◌, ◌++◌, [], ◌∷◌, IfOk, OnOk, length, slice_get};
 ghost use Rattle.std.specs.List.{flat_map};
 ghost use Rattle.world_rules.specs.Secrets.{group_secret};
-ghost use Rattle.client_quorum.specs.Clients.{after_heard};
-ghost use Rattle.world_rules.specs.Clients.{heard};
-ghost use Rattle.smart_messages.specs.declared.message.Message.TheVariants as plains;
-ghost use Rattle.world_rules.specs.Worlds.{sends, acceptance_in, told_heard, client_takes, asks, repeats, learns, tells, shown_client};
-ghost use Rattle.world_clients.specs.Replies.{takes_reply};
+ghost use Rattle.smart_base.specs.Views.{present};
+ghost use Rattle.client_quorum.specs.Readings.{after_word};
+ghost use Rattle.client_quorum.specs.declared.client.Client.{Client};
+ghost use Rattle.world_rules.specs.Clients.{heard_word};
+ghost use Rattle.world_rules.specs.Worlds.{heard_by, acceptance_in, told_heard, client_takes, asks, repeats, learns, tells, shown_client};
+ghost use Rattle.world_clients.specs.Words.{takes_word};
 ghost use Rattle.world_clients.specs.Asking.{repeats_by, repeats_found};
 
-use client_quorum::client::{Acceptance, Client, Heard, Ignored};
-use client_quorum::hearing::read_reply;
+use client_quorum::client::{Acceptance, Client, Heard, Ignored, Word};
+use client_quorum::hearing::read_word;
 use node_rules::node::Target;
 use smart_base::bytes::Payload;
 use smart_base::duplicate::Duplicate;
 use smart_base::name::ClientId;
 use smart_base::number::Place;
 use smart_base::party::Party;
-use smart_base::view::View;
+use smart_base::sequence::Sequence;
 use smart_keys::ring::Ring;
 use smart_messages::message::Message;
 use smart_service::service::Service;
 use smart_statements::signed::Signed;
-use smart_statements::statement::{Answer, Request};
+use smart_statements::statement::Request;
 use std::alloc::{AllocError, Global};
 use world_rules::line::OutLine;
 use world_rules::message::Origin;
-use world_state::state::{WorldState, heard_by};
+use world_state::state::{WorldState, members_of};
 
 /// What a transcript tells of what a client heard.
 fn told_heard(alloc: Global, id: ClientId, heard: &Heard) -> Result<OutLine, AllocError>
@@ -48,6 +49,15 @@ fn told_heard(alloc: Global, id: ClientId, heard: &Heard) -> Result<OutLine, All
                 reply,
             })
         }
+        Heard::Viewed { have, need } => Ok(OutLine::Viewed {
+            client: id,
+            have: *have,
+            need: *need,
+        }),
+        Heard::Moved(view) => Ok(OutLine::Moved {
+            client: id,
+            view: *view,
+        }),
         Heard::Ignored(why) => Ok(OutLine::Ignored {
             client: id,
             why: *why,
@@ -64,23 +74,22 @@ fn keep_accepted(accepted: &mut Vec<Acceptance>, heard: Heard) -> Result<(), All
     Ok(())
 }
 
-/// Hears a reply at a client; what the client tells and accepts is added. Error: want of memory.
-fn hear_reply(
+/// Hears a member's word at a client; what the client tells and accepts is added. Error: want of memory.
+fn hear_word(
     alloc: Global,
-    view: &View,
     ring: &Ring,
     client: &mut Client,
     accepted: &mut Vec<Acceptance>,
     told: &mut Vec<OutLine>,
-    answer: &Signed<Answer>,
+    word: &Word,
 ) -> Result<(), AllocError>
     requires { ring.now ≡ group_secret }
-    ensures client { OnOk result (client.new ≡ after_heard client.old answer.now (heard view.now client.old answer.now)) }
-    ensures accepted { OnOk result (accepted.new.items ≡ accepted.old.items ++ acceptance_in (heard view.now client.old answer.now)) }
-    ensures told { OnOk result (told.new.items ≡ told.old.items ++ told_heard client.old.id (heard view.now client.old answer.now) ∷ []) }
+    ensures client { OnOk result (client.new ≡ after_word client.old word.now (heard_word client.old word.now)) }
+    ensures accepted { OnOk result (accepted.new.items ≡ accepted.old.items ++ acceptance_in (heard_word client.old word.now)) }
+    ensures told { OnOk result (told.new.items ≡ told.old.items ++ told_heard client.old.id (heard_word client.old word.now) ∷ []) }
 {
     let id = client.id;
-    let heard = client.hear_reply(alloc, view, ring, answer)?;
+    let heard = client.hear_word(alloc, ring, word)?;
     told.push(told_heard(alloc, id, &heard)?)?;
     keep_accepted(accepted, heard)?;
     Ok(())
@@ -109,28 +118,27 @@ pub fn show_clients(told: &mut Vec<OutLine>, clients: &[Client]) -> Result<(), A
     Ok(())
 }
 
-/// Hears a reply at the client at an index, or ignores what is none. Error: want of memory.
-#[tactic(auto, unfolding(crate::specs::Replies::takes_reply, world_rules::specs::Worlds::hearing))]
-fn takes_reply<S: Service>(
+/// Hears a member's word at the client at an index, or ignores what is none. Error: want of memory.
+#[tactic(auto, unfolding(crate::specs::Words::takes_word, world_rules::specs::Worlds::hearing))]
+fn takes_word<S: Service>(
     world: &mut WorldState<S>,
     i: usize,
-    reply: &Option<Signed<Answer>>,
+    word: &Option<Word>,
 ) -> Result<(), AllocError>
-    ensures { OnOk result (world.new ≡ takes_reply i reply.now world.old) }
+    ensures { OnOk result (world.new ≡ takes_word i word.now world.old) }
 {
     if world.is_halted() || i >= world.clients.len() {
         return Ok(());
     }
-    match reply {
-        Some(answer) => {
-            hear_reply(
+    match word {
+        Some(word) => {
+            hear_word(
                 world.alloc,
-                &world.view,
                 world.ring.get(),
                 &mut world.clients[i],
                 &mut world.accepted,
                 &mut world.told,
-                answer,
+                word,
             )?;
         }
         None => {
@@ -144,8 +152,8 @@ fn takes_reply<S: Service>(
     Ok(())
 }
 
-/// Hears the bytes of a message at the client at an index, which reads replies alone. Error: want of
-/// memory.
+/// Hears the bytes of a message at the client at an index, which reads members' words alone. Error: want
+/// of memory.
 #[tactic(auto, using(crate::proofs::Hearing::takes_bytes))]
 pub fn client_takes<S: Service>(
     world: &mut WorldState<S>,
@@ -154,9 +162,17 @@ pub fn client_takes<S: Service>(
 ) -> Result<(), AllocError>
     ensures { OnOk result (world.new ≡ client_takes i bytes.now world.old) }
 {
-    let reply = read_reply(world.alloc, bytes)?;
-    takes_reply(world, i, &reply)?;
+    let word = read_word(world.alloc, bytes)?;
+    takes_word(world, i, &word)?;
     Ok(())
+}
+
+/// The members of the newest view that the client at an index knows. Error: want of memory.
+fn members_known<S: Service>(world: &WorldState<S>, i: usize) -> Result<Sequence<Party>, AllocError>
+    requires { i < length world.now.clients }
+    ensures { (c : Client) → slice_get world.now.clients i ≡ Some c → IfOk result (λ to. to ≡ heard_by (present c.views) [] Target.View) }
+{
+    members_of(world.alloc, world.clients[i].view())
 }
 
 /// Lets the client at an index ask, if it is not rogue and none of its requests waits. Error: want of
@@ -184,11 +200,9 @@ pub fn ask<S: Service>(world: &mut WorldState<S>, i: usize, op: &Payload) -> Res
         return Ok(());
     }
     world.ring.learn(Party::Client(client))?;
+    let to = members_known(world, i)?;
     match world.clients[i].ask(world.alloc, world.ring.get(), op) {
-        Ok(request) => {
-            send_ask(world, client, request)?;
-            Ok(())
-        }
+        Ok(request) => world.send(Origin::Client(client), to, Message::Ask(request)),
         // None waits: its only want is memory.
         Err(_) => Err(AllocError),
     }
@@ -218,33 +232,24 @@ fn repeat_waiting<S: Service>(world: &mut WorldState<S>, i: usize) -> Result<(),
     ensures { OnOk result (world.new ≡ repeats_found world.old (slice_get world.old.clients i)) }
 {
     let id = world.clients[i].id;
+    let to = members_known(world, i)?;
     let request = world.clients[i].again(world.alloc, world.ring.get())?;
-    send_again(world, id, request)
+    send_again(world, id, to, request)
 }
 
+/// Sends a client's request to some parties, if there is one. Error: want of memory.
 fn send_again<S: Service>(
     world: &mut WorldState<S>,
     id: ClientId,
+    to: Sequence<Party>,
     request: Option<Signed<Request>>,
 ) -> Result<(), AllocError>
-    ensures { OnOk result (world.new ≡ repeats_by world.old id request) }
+    ensures { OnOk result (world.new ≡ repeats_by world.old id to request) }
 {
     match request {
         None => world.tell(OutLine::IdleClient { client: id }),
-        Some(request) => send_ask(world, id, request),
+        Some(request) => world.send(Origin::Client(id), to, Message::Ask(request)),
     }
-}
-
-/// Sends a client's request. Error: want of memory.
-fn send_ask<S: Service>(
-    world: &mut WorldState<S>,
-    client: ClientId,
-    request: Signed<Request>,
-) -> Result<(), AllocError>
-    ensures { OnOk result (world.new ≡ sends world.old (Origin.Client client) world.old.view Target.View (plains.Ask request)) }
-{
-    let to = heard_by(world.alloc, &world.view, Target::View)?;
-    world.send(Origin::Client(client), to, Message::Ask(request))
 }
 
 /// Tells the client at an index of a place. Error: want of memory.

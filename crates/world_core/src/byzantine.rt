@@ -1,37 +1,18 @@
 //! Faulty members, rogue clients, and what a script injects.
-ghost use Rattle.std.specs.Prelude.{◌≡◌, OnOk, Some, length, filter};
-ghost use Rattle.world_rules.specs.Premises.{is_among, too_many};
+ghost use Rattle.std.specs.Prelude.{◌≡◌, OnOk, Some};
 ghost use Rattle.world_rules.specs.Worlds.{declares_faulty, declares_rogue, injects_content, injects};
 
 use smart_base::name::{ClientId, MemberId};
 use smart_base::sequence::Sequence;
-use smart_base::view::View;
 use smart_service::service::Service;
 use std::alloc::AllocError;
-use world_hosts::host::is_among;
 use world_injections::injection::injected;
 use world_rules::line::Injection;
 use world_rules::message::{Content, Ending, Origin, Premise, Sent};
+use world_state::few::too_many_in;
 use world_state::state::{WorldState, let_go};
 
-/// The number of a view's members that are faulty.
-fn count_faulty(view: &View, faulty: &[MemberId]) -> usize
-    ensures { result ≡ length (filter (is_among faulty.now) view.now.members) }
-{
-    view.members()
-        .iter()
-        .filter(|member| is_among(faulty, **member))
-        .count()
-}
-
-/// Whether more than f of a view's members are faulty.
-fn too_many(view: &View, faulty: &[MemberId]) -> bool
-    ensures { result ≡ too_many view.now faulty.now }
-{
-    (view.f() as usize) < count_faulty(view, faulty)
-}
-
-/// Declares a member faulty, unless more than f would be.
+/// Declares a member faulty, unless more than f would be in one of the views behind the chosen list.
 #[tactic(auto, unfolding(world_rules::specs::Worlds::declares_faulty))]
 pub fn declare_faulty<S: Service>(
     world: &mut WorldState<S>,
@@ -43,7 +24,7 @@ pub fn declare_faulty<S: Service>(
         return Ok(());
     }
     world.faulty.push(member)?;
-    if too_many(&world.view, world.faulty.as_slice()) {
+    if too_many_in(world.chosen.views(), world.faulty.as_slice()) {
         world.faulty.pop();
         world.ending = Some(Ending::Premise(Premise::TooManyFaulty));
     }

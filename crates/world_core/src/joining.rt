@@ -35,7 +35,7 @@ fn add_named<S: Service>(world: &mut WorldState<S>, member: MemberId) -> Result<
     world.ring.learn(Party::Member(member))?;
     let host: Host<S> = first_host(
         world.alloc,
-        &world.view,
+        world.chosen.first(),
         world.period,
         world.ring.get(),
         member,

@@ -56,6 +56,7 @@ pub fn is_there<S: Service>(world: &WorldState<S>, line: &Line) -> bool
     match line {
         Line::Nothing
         | Line::Ask { .. }
+        | Line::Change { .. }
         | Line::Again { .. }
         | Line::Tell { .. }
         | Line::CrashAll { .. }
@@ -103,6 +104,7 @@ pub fn play<S: Service>(world: &mut WorldState<S>, line: &Line) -> Result<(), Al
     match line {
         Line::Nothing => Ok(()),
         Line::Ask { client, op } => ask(world, client.get() as usize, op),
+        Line::Change { op } => ask(world, 0, op),
         Line::Again { client } => repeat(world, client.get() as usize),
         Line::Tell { from, to } => tell_client(world, from.get() as usize, to.get() as usize),
         Line::Flow { members } => flow(world, members.as_slice()),

@@ -1,7 +1,6 @@
 //! A member's host, and what it tells of its node's steps.
 ghost use Rattle.std.specs.Prelude.{◌≡◌, ◌+◌, ◌^◌, ◌<◌, ◌++◌, ◌==◌, ◌&&◌, ◌≤◌, [], true, not, IfOk, OnOk, length, map, drop, is_some, nat_lt, Some, None, if◌then◌else◌};
 ghost use Rattle.std.specs.List.{flat_map};
-ghost use Rattle.std.specs.Option.{option_copied};
 ghost use Rattle.node_rules.specs.Nodes.{next_place, view_of};
 ghost use Rattle.node_rules.specs.Kept.{core_step};
 ghost use Rattle.node_rules.specs.Transfers.{completed_by};
@@ -19,20 +18,19 @@ ghost use Rattle.world_hosts.specs.Standing.{stands};
 use member_store::store::MemberStore;
 use node_core::node::NodeCore;
 use node_rules::node::{BookTail, Delivery, Fired, Held, Why};
-use smart_base::duplicate::Duplicate;
 use smart_base::name::MemberId;
 use smart_base::number::Place;
 use smart_base::sequence::{Bytes, Sequence};
 use smart_base::view::View;
 use smart_keys::ring::Ring;
 use smart_service::service::Service;
-use smart_statements::batch::Batch;
 use smart_statements::entry::NodeEvent;
 use std::alloc::{AllocError, Global};
 use std::marker::Model;
 use std::mem::drop;
 use store_laws::job::Tail;
 use vote_book::entry::LogEntry;
+use world_ledger::chosen::Chosen;
 use world_rules::line::OutLine;
 
 /// A member's host: its node, and the store of what the node writes, which runs if the node does. It
@@ -116,6 +114,10 @@ fn tell_rule(told: &mut Vec<OutLine>, id: MemberId, rule: &Fired) -> Result<(), 
             };
             told.push(line)?;
         }
+        Fired::Viewed(view) => told.push(OutLine::View {
+            member: id,
+            view: *view,
+        })?,
         Fired::Adopted(start) => {
             let line = OutLine::Synced {
                 member: id,
@@ -189,6 +191,7 @@ fn keep_rule<S: Service>(
         Fired::Adopted(start) => drop(start),
         Fired::Promised(promise) => drop(promise),
         Fired::Spoiled
+        | Fired::Viewed(_)
         | Fired::Decided(_)
         | Fired::Joined
         | Fired::Led
@@ -212,23 +215,6 @@ fn keep_fired<S: Service>(
 {
     for rule in fired.into_vec() {
         keep_rule(host, marked, rule)?;
-    }
-    Ok(())
-}
-
-/// Adds a waiting batch to the list, if the list ends before its place.
-fn choose(
-    alloc: Global,
-    chosen: &mut Vec<Batch>,
-    place: u64,
-    waiting: Option<&Batch>,
-) -> Result<(), AllocError>
-    ensures { OnOk result (chosen.new.items ≡ chosen_with chosen.old.items place (option_copied waiting.entry)) }
-{
-    if let Some(batch) = waiting {
-        if place == chosen.len() as u64 + 1 {
-            chosen.push(batch.duplicate(alloc)?)?;
-        }
     }
     Ok(())
 }
@@ -552,14 +538,14 @@ fn keep_step<S: Service>(host: &mut Host<S>, made: u64, taken: u64) -> Result<()
 pub fn step_host<S: Service>(
     alloc: Global,
     host: &mut Host<S>,
-    chosen: &mut Vec<Batch>,
+    chosen: &mut Chosen,
     told: &mut Vec<OutLine>,
     marked: &mut Vec<Bytes>,
     event: &NodeEvent,
 ) -> Result<Left, AllocError>
     requires { host.old.up ≡ true }
     ensures host { OnOk result (host.new ≡ host_after (core_course S.meaning) host.old (core_step S.meaning host.old.node event.now)) }
-    ensures chosen { OnOk result (let after = (core_step S.meaning host.old.node event.now).node in chosen.new.items ≡ chosen_with chosen.old.items (next_place after) after.waiting) }
+    ensures chosen { OnOk result (let after = (core_step S.meaning host.old.node event.now).node in chosen.new ≡ record chosen.old { list = chosen_with chosen.old.list (next_place after) after.waiting }) }
     ensures told { OnOk result (let o = core_step S.meaning host.old.node event.now in told.new.items ≡ told.old.items ++ (told_drop host.old.node.id o.dropped ++ flat_map (told_fired host.old.node.id) o.fired)) }
     ensures marked { OnOk result (marked.new.items ≡ marked.old.items ++ flat_map snapshot_in (core_step S.meaning host.old.node event.now).fired) }
     ensures left { IfOk result (λ left. let after = (core_step S.meaning host.old.node event.now).node in left.messages ≡ leaving after.firm after.held) }
@@ -574,12 +560,7 @@ pub fn step_host<S: Service>(
     let outcome = host.node.step(event)?;
     keep_step(host, made, taken)?;
     tell_step(told, id, outcome.dropped, outcome.fired.as_slice())?;
-    choose(
-        alloc,
-        chosen,
-        host.node.place().get() + 1,
-        host.node.waiting(),
-    )?;
+    chosen.choose(alloc, host.node.place().get() + 1, host.node.waiting())?;
     let idle = is_idle(outcome.fired.as_slice());
     keep_fired(host, marked, outcome.fired)?;
     let messages = host.node.release_all()?;

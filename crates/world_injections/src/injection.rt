@@ -11,7 +11,7 @@ ghost use Rattle.replica_rules.specs.Seals.{signed, digest_of};
 ghost use Rattle.world_rules.specs.Secrets.{group_secret};
 ghost use Rattle.world_rules.specs.Injections.{content_at, request_of, request_at, requests_at, batch_proposed, report_of, reports_at, mark_of, marks_at, decision_of, view_of_first, evident_by, evident_at, short_bytes, locked_at, report_bytes, report_by, sync_bytes, offer_bytes, proposal_bytes, vote_bytes, injected_bytes, are_bytes, injected};
 ghost use Rattle.smart_messages.specs.declared.message.Message.TheVariants as changes;
-ghost use Rattle.smart_messages.specs.Regencies.{stops};
+ghost use Rattle.smart_messages.specs.Regencies.{stops, view_infos};
 ghost use Rattle.world_injections.specs.Proposals.{is_proposable, proposable};
 ghost use Rattle.world_injections.specs.Sizes.{is_early, evident_len, locked_len, fits_report, fits_numbers, fits_marks};
 ghost use Rattle.world_injections.specs.Named.{locked_of, evident_of};
@@ -24,12 +24,13 @@ use smart_base::limits::{BATCH_BYTES, BATCH_REQUESTS, MARKS, MESSAGE_BYTES, PIEC
 use smart_base::name::{ClientId, MemberId};
 use smart_base::number::{Place, Regency, ViewNo};
 use smart_base::sequence::{Bytes, Sequence};
+use smart_base::view::View;
 use smart_keys::hash::Sha;
 use smart_keys::ring::Ring;
 use smart_messages::codec::encode;
 use smart_messages::message::{Message, Proposed, decision_in, mark_in, report_in, request_in};
 use smart_messages::party::party_of;
-use smart_messages::regency::{Reported, Stop, Sync};
+use smart_messages::regency::{Reported, Stop, Sync, ViewInfo};
 use smart_statements::batch::Batch;
 use smart_statements::optional::duplicate_optional;
 use smart_statements::report::{DecisionProof, Evidence, LockCertificate, Mark, Report};
@@ -331,6 +332,7 @@ pub fn is_injectable(sent: &[Sent], form: &Injection) -> bool
         Injection::Ask { .. }
         | Injection::Stop { .. }
         | Injection::Reply { .. }
+        | Injection::View { .. }
         | Injection::Mark { .. }
         | Injection::StateAsk { .. }
         | Injection::Raw { .. } => true,
@@ -507,6 +509,22 @@ fn stop_bytes(
 {
     let signed = sealed(alloc, ring, signer.get(), Stop { view, regency })?;
     spelled(alloc, Message::Stop(signed))
+}
+
+fn view_bytes(
+    alloc: Global,
+    ring: &Ring,
+    signer: MemberId,
+    view: &View,
+) -> Result<Option<Bytes>, AllocError>
+    requires { ring.now ≡ group_secret }
+    ensures { IfOk result (λ bytes. bytes ≡ Some (spelling (changes.ViewTold (signed view_infos group_secret signer (record { view = view.now }))))) }
+{
+    let info = ViewInfo {
+        view: view.duplicate(alloc)?,
+    };
+    let signed = sealed(alloc, ring, signer.get(), info)?;
+    spelled(alloc, Message::ViewTold(signed))
 }
 
 fn mark_bytes(
@@ -840,6 +858,7 @@ fn injected_bytes(
             let signed = sealed(alloc, ring, signer.get(), answer.duplicate(alloc)?)?;
             spelled(alloc, Message::Reply(signed))
         }
+        Injection::View { signer, view } => view_bytes(alloc, ring, *signer, view),
         Injection::Mark {
             signer,
             place,

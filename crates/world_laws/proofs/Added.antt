@@ -1,22 +1,22 @@
 -- The nodes of a play are those of the first members, and those that lines have added.
-use Rattle.std.proofs.Common.{◌≡◌, ◌≤◌, ◌⊎◌, ⊎_elim, inl, inr, ℕ, ◌++◌, ◌∙◌, ◌==◌, true, false, List, [], ◌∷◌, refl, ap, sym, subst, Option, Some, None, is_some, take, append-nil, append_assoc, eqb-true, eq-eqb}
+use Rattle.std.proofs.Common.{◌≡◌, ◌⊎◌, ⊎_elim, inl, inr, ℕ, ◌≤◌, ◌++◌, ◌∙◌, ◌==◌, true, false, List, [], ◌∷◌, refl, ap, sym, subst, Option, Some, None, is_some, take, append-nil, append_assoc, eqb-true, eq-eqb}
+use Rattle.world_rules.specs.Premises.{too_many_in}
+use Rattle.replica_rules.specs.Replicas.{views_after}
 use Rattle.std.specs.Prelude.{insert, slice_get}
 use Rattle.std.specs.List.{flat_map, list_any}
 use Rattle.smart_base.specs.Views.{View, is_member}
-use Rattle.smart_statements.specs.Forms.{SignedBy}
-use Rattle.smart_statements.specs.declared.statement.Answer.{Answer}
 use Rattle.smart_statements.specs.declared.entry.NodeEvent.{NodeEvent}
 use Rattle.smart_service.specs.Services.{Meaning}
-use Rattle.node_rules.specs.Nodes.{view_of}
+use Rattle.node_rules.specs.Nodes.{view_of, next_place}
 use Rattle.node_rules.specs.Steps.{Outcome, step_of, leaving}
 use Rattle.vote_book.specs.Books.{Among}
 use Rattle.agreement_laws.proofs.Lists.{among_either, among_left, among_right, either, either_by}
 use Rattle.client_quorum.specs.declared.client.Client.{Client}
+use Rattle.client_quorum.specs.declared.client.Word.{Word}
 use Rattle.client_quorum.specs.declared.client.Heard.{Heard}
 use Rattle.world_rules.specs.Secrets.{group_secret}
-use Rattle.world_rules.specs.Clients.{heard}
-use Rattle.world_rules.specs.Premises.{too_many}
-use Rattle.world_rules.specs.Worlds.{adds_node, adds_unless, begun, course_of, declares_faulty, declares_rogue, hearing, Host, host_after, host_crashed, host_index, host_resumed, hosts_below, is_gone, is_halted, is_name, is_rogue, new_host, parts_held, posts, snapshot_in, stepped, World}
+use Rattle.world_rules.specs.Clients.{heard_word}
+use Rattle.world_rules.specs.Worlds.{adds_node, adds_unless, begun, course_of, declares_faulty, declares_rogue, hearing, Host, host_after, host_crashed, host_index, host_resumed, hosts_below, is_gone, is_halted, is_name, is_rogue, new_host, parts_held, posts, snapshot_in, stepped, World, chosen_with}
 use Rattle.world_rules.specs.Plays.{has_member, line_played, rested, world_after}
 use Rattle.world_rules.specs.declared.line.Header.{Header}
 use Rattle.world_rules.specs.declared.line.Line.{Line}
@@ -30,7 +30,7 @@ use Rattle.world_laws.proofs.ChosenKept.{hosts_ids}
 use Rattle.world_laws.proofs.Declared.{is_over}
 use Rattle.world_laws.proofs.Delivering.{named-step}
 use Rattle.world_laws.proofs.Keeps.{after_call, ask_of, asked_by, by-posts-ended, calm-line_played, from_client, from_node, from_script, IsCalm, keeps-sends_all, keeps-world_after, KeepsAll, KeepsCalmLives, node_resumed, signed_by}
-use Rattle.world_laws.proofs.Meeting.{met-goes_on}
+use Rattle.world_laws.proofs.Meeting.{met-goes_on, step-goes_on}
 use Rattle.world_laws.proofs.Names.{any_insert, either_insert, has_position, here_insert, map_insert, named_there, names}
 use Rattle.world_laws.proofs.Past.{world-more}
 use Rattle.world_laws.proofs.Reopens.{from_named}
@@ -55,14 +55,14 @@ unfolding stepped
 named-stepped {S = S} m ids view ending w i h event at is =
     let o : Outcome S = step_of m h.node event in
     let h' : Host S = host_after (course_of m) h o in
-    keeps-sends_all (λ (v : World S). Named ids view ending v) h.node.id (view_of o.node) (λ v held named. named-posts ids view ending v (from_node h.node.id (view_of o.node) held) named) _ (leaving o.node.firm o.node.held)
+    keeps-sends_all (λ (v : World S). Named ids view ending v) h.node.id (view_of o.node) (λ v held named. named-posts ids view ending v (from_node v h.node.id (view_of o.node) held) named) _ (leaving o.node.firm o.node.held)
     (record {
       names_are = ids-set w.hosts i h h' at (named-step m h.node event) ∙ is.names_are;
       view_is = is.view_is;
-      on = λ on. is.on (met-goes_on w.sent w.marked w.ending (flat_map snapshot_in o.fired) on);
+      on = λ on. is.on (step-goes_on w.view (chosen_with w.chosen (next_place o.node) o.node.waiting) w.faulty w.sent w.marked w.ending (flat_map snapshot_in o.fired) on);
     })
 
-named-hearing : {S : Type 0} (ids : List ℕ) (view : View) (ending : Option Ending) (w : World S) (i : ℕ) (c : Client) (a : SignedBy Answer) (h : Heard) → Named ids view ending w → Named ids view ending (hearing w i c a h)
+named-hearing : {S : Type 0} (ids : List ℕ) (view : View) (ending : Option Ending) (w : World S) (i : ℕ) (c : Client) (a : Word) (h : Heard) → Named ids view ending w → Named ids view ending (hearing w i c a h)
 unfolding hearing
 named-hearing ids view ending w i c a h is = record { names_are = is.names_are; view_is = is.view_is; on = is.on }
 
@@ -72,10 +72,10 @@ keeps-named m ids view ending =
       calm = record {
         event = λ w i h event on up at may is. named-stepped m ids view ending w i h event at is;
         disk = λ w i h on up at is. record { names_are = ids-set w.hosts i h (after_call (course_of m) h) at refl ∙ is.names_are; view_is = is.view_is; on = is.on };
-        hear = λ w i c x a on at has read is. named-hearing ids view ending w i c a (heard w.view c a) is;
+        hear = λ w i c x a on at has read is. named-hearing ids view ending w i c a (heard_word c a) is;
         ask = λ w i c op on at free few brief is.
-            named-posts ids view ending (asked_by w i c op) (from_client w.view c (ask_of c op)) (record { names_are = is.names_are; view_is = is.view_is; on = is.on });
-        again = λ w i c q on at waits is. named-posts ids view ending w (from_client w.view c (signed_by c q)) is;
+            named-posts ids view ending (asked_by w i c op) (from_client c (ask_of c op)) (record { names_are = is.names_are; view_is = is.view_is; on = is.on });
+        again = λ w i c q on at waits is. named-posts ids view ending w (from_client c (signed_by c q)) is;
         learn = λ w i j c d on at other is. record { names_are = is.names_are; view_is = is.view_is; on = is.on };
         inject = λ w x on read fine is. named-posts ids view ending w (from_script x) is;
         end = λ w other on is. record { names_are = is.names_are; view_is = is.view_is; on = λ none. absurd (ended other none) };
@@ -199,7 +199,7 @@ added-faulty {S = S} played member w is =
     let stays = added-same played (lines.Faulty member) w.view w.ending w.ending (names w.hosts) (λ id same. other_faulty id member same) (λ on. on) is in
     either P (is_halted w) w _ stays
     (either P (is_gone w member) w _ stays
-    (either P (too_many w.view (w.faulty ++ member ∷ [])) _ _
+    (either P (too_many_in (views_after w.view w.chosen) (w.faulty ++ member ∷ [])) _ _
     (added-same played (lines.Faulty member) w.view w.ending (Some (Premise TooManyFaulty)) (names w.hosts) (λ id same. other_faulty id member same) (λ on. absurd (ended on)) is) stays))
   where
     ended : Some (Premise TooManyFaulty) ≡ None → ⊥
@@ -255,9 +255,9 @@ keeps-there {S = S} m id =
         event = λ w i h event up at may is. same w _ (named-stepped m (names w.hosts) w.view w.ending w i h event at (own w)) is;
         disk = λ w i h up at is. over (names w.hosts) _ (ids-set w.hosts i h (after_call (course_of m) h) at refl) is;
         crash = λ w i h left up at may is. over (names w.hosts) _ (ids-set w.hosts i h (host_crashed (course_of m) h left) at refl) is;
-        hear = λ w i c x a at has read is. same w _ (named-hearing (names w.hosts) w.view w.ending w i c a (heard w.view c a) (own w)) is;
-        ask = λ w i c op at free few brief is. same w _ (named-posts (names w.hosts) w.view w.ending (asked_by w i c op) (from_client w.view c (ask_of c op)) (own_asked w i c op)) is;
-        again = λ w i c q at waits is. same w _ (named-posts (names w.hosts) w.view w.ending w (from_client w.view c (signed_by c q)) (own w)) is;
+        hear = λ w i c x a on at has read is. same w _ (named-hearing (names w.hosts) w.view w.ending w i c a (heard_word c a) (own w)) is;
+        ask = λ w i c op at free few brief is. same w _ (named-posts (names w.hosts) w.view w.ending (asked_by w i c op) (from_client c (ask_of c op)) (own_asked w i c op)) is;
+        again = λ w i c q at waits is. same w _ (named-posts (names w.hosts) w.view w.ending w (from_client c (signed_by c q)) (own w)) is;
         learn = λ w i j c d at other is. is;
         inject = λ w x read fine is. same w _ (named-posts (names w.hosts) w.view w.ending w (from_script x) (own w)) is;
         declare = λ w faulty rogue ending how is. is;

@@ -26,7 +26,7 @@ use Rattle.vote_book.specs.declared.entry.LogEntry.TheVariants.{Opened, Wrote, A
 use Rattle.replica_rules.specs.Pools.{offered, settled}
 use Rattle.replica_rules.specs.Replicas.{delivered, is_next}
 use Rattle.snapshot_form.specs.Snapshots.{snapshot_text}
-use Rattle.node_rules.specs.Nodes.{Node, next_place, regency_of, sending, recording, holding, holding_all}
+use Rattle.node_rules.specs.Nodes.{Node, next_place, regency_of, sending, recording, holding, holding_all, enters}
 use Rattle.node_rules.specs.Arrivals.{kept, noted}
 use Rattle.node_rules.specs.Marks.{is_own_turn, mark_of, own_snapshot, snapshots_due, mark_place, firm_at, marks_place}
 use Rattle.node_rules.specs.Rules.{lines_to_answer, replies_with, replying, deliver_batch, delivers, proposing, propose_batch, proposes, writing, write_batch, writes, accepting, accept_batch, accepts, deciding, decide_batch, decides, answering, answer_line, answers_again}
@@ -226,7 +226,7 @@ taken-deliver_batch : {S : Type 0} (m : Meaning S) (n : Node S) (batch : Option 
 unfolding deliver_batch
 taken-deliver_batch m n None = refl
 taken-deliver_batch m n (Some batch) =
-    taken-replying (lines_to_answer m n batch) (record n { replica = delivered m n.replica batch; waiting = None; pool = settled (delivered m n.replica batch).table n.pool; impatient = false })
+    taken-replying (lines_to_answer m n batch) (enters n (record n { replica = delivered m n.replica batch; waiting = None; pool = settled (delivered m n.replica batch).table n.pool; impatient = false }))
 
 taken-delivers : {S : Type 0} (m : Meaning S) (n : Node S) → (delivers m n).taken ≡ n.taken
 unfolding delivers

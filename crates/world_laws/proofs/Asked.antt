@@ -127,7 +127,7 @@ states-posts {S = S} w s c states =
 asked-sends_all : {S : Type 0} (id : ℕ) (view : View) (w : World S) (held : List Held) → Each (λ h. StatesAsked w.rogue w.sent (contents.Message h.message)) held → RequestsAsked w → RequestsAsked (sends_all id view w held)
 asked-sends_all id view w [] each is = is
 asked-sends_all {S = S} id view w (h ∷ hs) each is =
-    let s : Sent = from_node id view h in
+    let s : Sent = from_node w id view h in
     let after : World S = posts w s in
     asked-sends_all id view after hs
     (each-weaken (λ (x : Held). StatesAsked w.rogue w.sent (contents.Message x.message)) (λ (x : Held). StatesAsked after.rogue after.sent (contents.Message x.message))
@@ -241,9 +241,9 @@ request_asked faulty rogue sent content q fine reads clients read there =
 -- whatever happens
 
 -- a client asks a request of its own
-asked-ask : {S : Type 0} (w : World S) (c : Client) (q : Request) → q.client ≡ c.id → RequestsAsked w → RequestsAsked (posts w (from_client w.view c (signed_by c q)))
+asked-ask : {S : Type 0} (w : World S) (c : Client) (q : Request) → q.client ≡ c.id → RequestsAsked w → RequestsAsked (posts w (from_client c (signed_by c q)))
 asked-ask w c q own is =
-    let s : Sent = from_client w.view c (signed_by c q) in
+    let s : Sent = from_client c (signed_by c q) in
     let asks : IsAskedIn s q = record {
       origin = ap (λ (id : ℕ). origins.Client id) (sym own);
       content = ap (λ (id : ℕ). contents.Message (Ask (signed requests group_secret id q))) (sym own);
@@ -271,7 +271,7 @@ keeps-asked {S = S} m brief service =
             );
         disk = λ w i h up at p. (k.kept.disk w i h up at p.0, record { each = p.1.each; chosen = p.1.chosen; clients = p.1.clients });
         crash = λ w i h left up at may p. (k.kept.crash w i h left up at may p.0, record { each = p.1.each; chosen = p.1.chosen; clients = p.1.clients });
-        hear = λ w i c x a at has read p. (k.kept.hear w i c x a at has read p.0, record { each = p.1.each; chosen = p.1.chosen; clients = p.1.clients });
+        hear = λ w i c x a on at has read p. (k.kept.hear w i c x a on at has read p.0, record { each = p.1.each; chosen = p.1.chosen; clients = p.1.clients });
         ask = λ w i c op at free low brief p. (
           k.kept.ask w i c op at free low brief p.0,
           asked-ask (asked_by w i c op) c (request_of c op) refl (record { each = p.1.each; chosen = p.1.chosen; clients = p.1.clients }),

@@ -1,6 +1,7 @@
 -- Clients number their requests, and accept one reply to each number.
 use Rattle.std.proofs.Common.{◌≡◌, ℕ, zero, suc, ◌+◌, ◌++◌, ◌≤◌, List, [], ◌∷◌, refl, ap, ◌∙◌, sym, Option, Some, None, inl, inr, ◌⊎◌, subst, arith, max, append-nil}
-use Rattle.node_rules.specs.Nodes.{view_of}
+use Rattle.smart_statements.specs.Batches.{Batch}
+use Rattle.node_rules.specs.Nodes.{view_of, next_place}
 use Rattle.std.specs.Prelude.{slice_get, slice_set}
 use Rattle.std.specs.List.{flat_map}
 use Rattle.smart_base.specs.Lists.{Each}
@@ -12,29 +13,30 @@ use Rattle.smart_messages.specs.declared.message.Message.TheVariants.{Ask}
 use Rattle.smart_service.specs.Services.{Meaning}
 use Rattle.node_rules.specs.Steps.{Outcome, leaving}
 use Rattle.node_rules.specs.declared.node.Held.{Held}
-use Rattle.client_quorum.specs.Clients.{fresh, request_of, asking, learning, acceptance, after_heard}
-use Rattle.world_rules.specs.Clients.{heard}
+use Rattle.client_quorum.specs.Clients.{fresh, request_of, asking, learning, acceptance}
+use Rattle.world_rules.specs.Clients.{heard_word}
 use Rattle.world_laws.specs.Promises.{HasAsked, AreApart, IsAskedIn}
-use Rattle.world_rules.specs.Worlds.{Course, Host, World, posts, all_ending, snapshot_in, stepped, acceptance_in, hearing, clients_from, begun}
+use Rattle.world_rules.specs.Worlds.{Course, Host, World, posts, all_ending, snapshot_in, stepped, acceptance_in, hearing, clients_from, begun, chosen_with, ending_few}
 use Rattle.world_rules.specs.Plays.{rested, world_after}
 use Rattle.client_quorum.specs.declared.client.Client.{Client}
 use Rattle.world_rules.specs.declared.line.Line.{Line}
 use Rattle.client_quorum.specs.declared.client.Acceptance.{Acceptance}
 use Rattle.client_quorum.specs.declared.client.Heard.{Heard}
-use Rattle.client_quorum.specs.declared.client.Heard.TheVariants as hears
 use Rattle.world_rules.specs.declared.message.Ending.{Ending}
 use Rattle.world_rules.specs.declared.message.Origin.TheVariants as origins
 use Rattle.world_rules.specs.declared.message.Sent.{Sent}
 use Rattle.world_laws.proofs.Numbered.{EachAt, each_at_get, each_at_weaker, each_at_set}
-use Rattle.world_laws.proofs.Meeting.{met-goes_on}
+use Rattle.world_laws.proofs.Meeting.{met-goes_on, step-goes_on}
 use Rattle.world_laws.proofs.Keeps.{ask_of, asked_by, by-posts-ended, KeepsLives, live-world_after, signed_by, from_node, from_client, from_script, keeps-sends_all}
 use Rattle.world_laws.proofs.Asks.{asked_end, asked_now}
-use Rattle.world_laws.proofs.Hearing.{Accepts, accepts_waiting}
+use Rattle.world_laws.proofs.Hearing.{Accepts, Does, word_does}
 use Rattle.world_rules.specs.declared.message.Content.{Content}
 use Rattle.world_rules.specs.declared.message.Content.TheVariants as contents
 use Rattle.agreement_laws.proofs.Lists.{some_equal, each_end}
 use Rattle.smart_base.proofs.ViewFacts.{each-weaken}
 use Rattle.world_rules.specs.declared.line.Header.{Header}
+use Rattle.client_quorum.specs.Readings.{after_word}
+use Rattle.client_quorum.specs.declared.client.Word.{Word}
 
 -- a request that waits is its client's last, no reply to its number was accepted, and it was asked, unless its message had no number any more
 pub record Waits (sent : List Sent) (ending : Option Ending) (accepted : List Acceptance) (i last : ℕ) (q : Request) : Type 0 where
@@ -71,8 +73,8 @@ abbrev IsQuiet : Sent → Type 0
 IsQuiet s = (q : Request) → IsAskedIn s q → ⊥
 
 -- what a node sends
-node_quiet : (id : ℕ) (view : View) (h : Held) → IsQuiet (from_node id view h)
-node_quiet id view h q asks = other asks.origin
+node_quiet : {S : Type 0} (w : World S) (id : ℕ) (view : View) (h : Held) → IsQuiet (from_node w id view h)
+node_quiet w id view h q asks = other asks.origin
   where
     other : origins.Node id ≡ origins.Client q.client → ⊥
     other is = cc
@@ -89,9 +91,9 @@ quiet_asks : (sent : List Sent) (s : Sent) → IsQuiet s → (q : Request) → H
 quiet_asks sent s quiet q asked = elim (asks_one sent s q asked) [ inl before ↦ before | inr now ↦ absurd (quiet q now) ]
 
 -- a client asks the request that it sends
-client_asks_one : (sent : List Sent) (view : View) (c : Client) (new q : Request) → HasAsked (sent ++ from_client view c (signed_by c new) ∷ []) q → HasAsked sent q ⊎ (q ≡ new)
-client_asks_one sent view c new q asked =
-    elim (asks_one sent (from_client view c (signed_by c new)) q asked) [ inl before ↦ inl before | inr now ↦ inr (sym (ap (λ (x : Content). statement x new) now.content)) ]
+client_asks_one : (sent : List Sent) (c : Client) (new q : Request) → HasAsked (sent ++ from_client c (signed_by c new) ∷ []) q → HasAsked sent q ⊎ (q ≡ new)
+client_asks_one sent c new q asked =
+    elim (asks_one sent (from_client c (signed_by c new)) q asked) [ inl before ↦ inl before | inr now ↦ inr (sym (ap (λ (x : Content). statement x new) now.content)) ]
   where
     statement : Content → Request → Request
     statement (contents.Message (Ask a)) r = a.statement
@@ -129,10 +131,11 @@ right-stepped : {S : Type 0} (course : Course S) (w : World S) (i : ℕ) (h : Ho
 unfolding stepped
 right-stepped course w i h o is =
     let snapshots : List (List ℕ) = flat_map snapshot_in o.fired in
-    keeps-sends_all ClientsRight h.node.id (view_of o.node) (λ v held right. right-posts v (from_node h.node.id (view_of o.node) held) (node_quiet h.node.id (view_of o.node) held) right) _ (leaving o.node.firm o.node.held)
+    let more : List Batch = chosen_with w.chosen (next_place o.node) o.node.waiting in
+    keeps-sends_all ClientsRight h.node.id (view_of o.node) (λ v held right. right-posts v (from_node v h.node.id (view_of o.node) held) (node_quiet v h.node.id (view_of o.node) held) right) _ (leaving o.node.firm o.node.held)
     (record {
-      all = right-sent w.sent w.sent w.ending (all_ending w.sent w.marked w.ending snapshots) w.clients w.accepted (λ q asked. asked) (λ q asked. asked)
-          (met-goes_on w.sent w.marked w.ending snapshots) is.all;
+      all = right-sent w.sent w.sent w.ending (all_ending w.sent w.marked (ending_few w.view more w.faulty w.ending) snapshots) w.clients w.accepted (λ q asked. asked) (λ q asked. asked)
+          (step-goes_on w.view more w.faulty w.sent w.marked w.ending snapshots) is.all;
     })
 
 -- a client asks
@@ -189,15 +192,15 @@ right-ask sent sent' ending ending' clients accepted i c op at forth back now on
 
 -- a client asks
 right-asks : {S : Type 0} (w : World S) (i : ℕ) (c : Client) (op : List ℕ) → slice_get w.clients i ≡ Some c → ClientsRight w
-    → ClientsRight (posts (asked_by w i c op) (from_client w.view c (ask_of c op)))
+    → ClientsRight (posts (asked_by w i c op) (from_client c (ask_of c op)))
 right-asks {S = S} w i c op at is =
-    let s : Sent = from_client w.view c (ask_of c op) in
+    let s : Sent = from_client c (ask_of c op) in
     by-posts-ended (λ (v : World S). ClientsRight v) (asked_by w i c op) s
     (λ ending ended. record {
       all = right-ask w.sent w.sent w.ending ending w.clients w.accepted i c op at (λ q asked. asked) (λ q asked. inl asked) (λ on. absurd (ended on)) (λ on. absurd (ended on)) is.all;
     })
     (λ free room. record {
-      all = right-ask w.sent (w.sent ++ s ∷ []) w.ending w.ending w.clients w.accepted i c op at (asked_end w.sent s) (client_asks_one w.sent w.view c (request_of c op))
+      all = right-ask w.sent (w.sent ++ s ∷ []) w.ending w.ending w.clients w.accepted i c op at (asked_end w.sent s) (client_asks_one w.sent c (request_of c op))
           (λ on. asked_now w.sent s (request_of c op) (record { origin = refl; content = refl })) (λ on. on) is.all;
     })
 
@@ -258,33 +261,37 @@ right-accept sent ending clients accepted i c a q at waits on is =
     no_request r same = cc
 
 -- clients stay right where one hears a reply
-right-heard : (sent : List Sent) (ending : Option Ending) (clients : List Client) (accepted : List Acceptance) (v : View) (i : ℕ) (c : Client) (a : SignedBy Answer) (h : Heard)
-    → slice_get clients i ≡ Some c → ending ≡ None → heard v c a ≡ h → Right sent ending clients accepted
-    → Right sent ending (slice_set clients i (after_heard c a h)) (accepted ++ acceptance_in h)
-right-heard sent ending clients accepted v i c a (hears.Counted count need) at on is_h is =
+right-heard : (sent : List Sent) (ending : Option Ending) (clients : List Client) (accepted : List Acceptance) (i : ℕ) (c : Client) (word : Word) (h : Heard) (after : Client)
+    → slice_get clients i ≡ Some c → ending ≡ None → Does c word h after → Right sent ending clients accepted
+    → Right sent ending (slice_set clients i after) (accepted ++ acceptance_in h)
+right-heard sent ending clients accepted i c word h after at on (inl stays) is =
     let own : ClientRight sent ending accepted i c = each_at_get (ClientRight sent ending accepted) clients i c is.each at in
-    right-same sent ending clients accepted i (record c { replies = c.replies ++ a ∷ [] }) (record { id = own.id; waits = own.waits; last = own.last }) is
-right-heard sent ending clients accepted v i c a (hears.Ignored why) at on is_h is =
-    right-same sent ending clients accepted i c (each_at_get (ClientRight sent ending accepted) clients i c is.each at) is
-right-heard sent ending clients accepted v i c a (hears.Accepted acc) at on is_h is =
-    let taken : Accepts v c a acc = accepts_waiting v c a acc is_h in
-    subst (λ (b : Acceptance). Right sent ending (slice_set clients i (record c { waiting = None; seen = max c.seen a.statement.place; replies = [] })) (accepted ++ b ∷ [])) (sym taken.is)
-    (right-accept sent ending clients accepted i c a taken.request at taken.counts.waits on is)
+    let next : Client = record c { replies = stays.replies; views = stays.views; infos = stays.infos } in
+    subst (λ (more : List Acceptance). Right sent ending (slice_set clients i after) (accepted ++ more)) (sym stays.none)
+    (subst (λ (x : Client). Right sent ending (slice_set clients i x) (accepted ++ [])) (sym stays.next)
+    (right-same sent ending clients accepted i next (record { id = own.id; waits = own.waits; last = own.last }) is))
+right-heard sent ending clients accepted i c word h after at on (inr takes) is =
+    let a : SignedBy Answer = takes.reply in
+    let taken : Accepts c a takes.acceptance = takes.accepts in
+    subst (λ (h : Heard). Right sent ending (slice_set clients i after) (accepted ++ acceptance_in h)) (sym takes.heard_is)
+    (subst (λ (x : Client). Right sent ending (slice_set clients i x) (accepted ++ takes.acceptance ∷ [])) (sym takes.next)
+    (subst (λ (b : Acceptance). Right sent ending (slice_set clients i (record c { waiting = None; seen = max c.seen a.statement.place; replies = [] })) (accepted ++ b ∷ [])) (sym taken.is)
+    (right-accept sent ending clients accepted i c a taken.request at taken.counts.waits on is)))
 
 -- a client sends its request once more
 
 -- clients stay right where one sends once more what it asked
 right-again : {S : Type 0} (w : World S) (i : ℕ) (c : Client) (q : Request) → w.ending ≡ None → slice_get w.clients i ≡ Some c → c.waiting ≡ Some q → ClientsRight w
-    → ClientsRight (posts w (from_client w.view c (signed_by c q)))
+    → ClientsRight (posts w (from_client c (signed_by c q)))
 right-again {S = S} w i c q on at waits is =
-    let s : Sent = from_client w.view c (signed_by c q) in
+    let s : Sent = from_client c (signed_by c q) in
     let own : ClientRight w.sent w.ending w.accepted i c = each_at_get (ClientRight w.sent w.ending w.accepted) w.clients i c is.all.each at in
     let before : HasAsked w.sent q = (own.waits q waits).asked on in
     by-posts-ended (λ (v : World S). ClientsRight v) w s
     (λ ending ended. record { all = right-sent w.sent w.sent w.ending ending w.clients w.accepted (λ r asked. asked) (λ r asked. asked) (λ on. absurd (ended on)) is.all })
     (λ free room. record {
       all = right-sent w.sent (w.sent ++ s ∷ []) w.ending w.ending w.clients w.accepted (asked_end w.sent s)
-          (λ r asked. elim (client_asks_one w.sent w.view c q r asked) [ inl old ↦ old | inr new ↦ subst (HasAsked w.sent) (sym new) before ])
+          (λ r asked. elim (client_asks_one w.sent c q r asked) [ inl old ↦ old | inr new ↦ subst (HasAsked w.sent) (sym new) before ])
           (λ on. on) is.all;
     })
 
@@ -311,7 +318,7 @@ keeps-right course =
       live = record {
         event = λ w i h event on up at may is. right-stepped course w i h (course.step h.node event) is;
         disk = λ w i h on up at is. record { all = is.all };
-        hear = λ w i c x a on at has read is. record { all = right-heard w.sent w.ending w.clients w.accepted w.view i c a (heard w.view c a) at on refl is.all };
+        hear = λ w i c x a on at has read is. record { all = right-heard w.sent w.ending w.clients w.accepted i c a (heard_word c a) (after_word c a (heard_word c a)) at on (word_does c a) is.all };
         ask = λ w i c op on at free few brief is. right-asks w i c op at is;
         again = λ w i c q on at waits is. right-again w i c q on at waits is;
         learn = λ w i j c d on at other is. record { all = right-learn w.sent w.ending w.clients w.accepted i c d.seen at is.all };
@@ -334,18 +341,20 @@ rested-right w is = record { all = is.all }
 -- the beginning
 
 -- what holds of each fresh client
-pub each_fresh : (P : ℕ → Client → Type 0) (count i : ℕ) → ((k : ℕ) → P k (fresh (i + k))) → EachAt P (clients_from count i)
+pub each_fresh : (P : ℕ → Client → Type 0) (view : View) (count i : ℕ) → ((k : ℕ) → P k (fresh view (i + k))) → EachAt P (clients_from view count i)
 unfolding clients_from
-each_fresh P zero i each = tt
-each_fresh P (suc count) i each =
-    (subst (λ (n : ℕ). P zero (fresh n)) (omega arith) (each zero), each_fresh (λ k. P (suc k)) count (i + 1) (λ k. subst (λ (n : ℕ). P (suc k) (fresh n)) (omega arith) (each (suc k))))
+each_fresh P view zero i each = tt
+each_fresh P view (suc count) i each = (
+  subst (λ (n : ℕ). P zero (fresh view n)) (omega arith) (each zero),
+  each_fresh (λ k. P (suc k)) view count (i + 1) (λ k. subst (λ (n : ℕ). P (suc k) (fresh view n)) (omega arith) (each (suc k))),
+)
 
 -- clients begin right
 pub right-begun : {S : Type 0} (m : Meaning S) (g : Header) → ClientsRight (begun m g)
 right-begun m g =
     record {
       all = record {
-        each = each_fresh (ClientRight [] None []) 1025 0 (λ k. record { id = omega arith; waits = λ q waits. absurd (no_request q waits); last = λ q asked own. absurd asked });
+        each = each_fresh (ClientRight [] None []) g.view 1025 0 (λ k. record { id = omega arith; waits = λ q waits. absurd (no_request q waits); last = λ q asked own. absurd asked });
         one = λ q r asked_q. absurd asked_q;
         asked = tt;
         apart = tt;

@@ -1,4 +1,6 @@
 -- What a member has sent rests on entries that became firm there.
+use Rattle.book_laws.proofs.Places.{last_append}
+use Rattle.node_laws.proofs.BookViews.{book_ranged}
 use Rattle.replica_rules.specs.Replicas.{views_after}
 use Rattle.store_laws.specs.Restored.{Images}
 use Rattle.store_laws.specs.States.{StoreState}
@@ -10,20 +12,17 @@ use Rattle.world_laws.proofs.Snapshots.{IsRestorable}
 use Rattle.world_rules.specs.Stated.{stated}
 use Rattle.world_laws.specs.Sending.{AllGenuine}
 use Rattle.world_laws.proofs.Fitting.{all_genuine}
-use Rattle.world_laws.proofs.Views.{view-step, views-step}
-use Rattle.world_laws.proofs.OneViews.{book_node, first_there, same_after, view_one}
+use Rattle.world_laws.proofs.Views.{book-grows, grows-step, place-step}
+use Rattle.world_laws.proofs.ListViews.{longer_there}
 use Rattle.world_laws.proofs.Lives.{book_left, Running, Stopped, fits_now, take-from}
 use Rattle.world_laws.proofs.Reopens.{from_held}
-use Rattle.world_laws.proofs.Chosen.{HostRight, ChosenRight}
-use Rattle.world_laws.proofs.ChosenKept.{resumed-right, keeps-both, chosen-kept, chosen-begun, left_host, resumed_on, stopped_host}
+use Rattle.world_laws.proofs.Chosen.{HostRight, ChosenRight, chosen-front}
+use Rattle.world_laws.proofs.ChosenKept.{resumed-right, left_host, resumed_on, stopped_host}
 use Rattle.std.proofs.Common.{◌≡◌, ℕ, zero, suc, ◌+◌, ◌≤◌, ◌++◌, List, [], ◌∷◌, length, refl, ap, ◌∙◌, sym, arith, Option, Some, None, inl, inr, ⊎_elim, subst, take, length-append, append-nil, true, not, drop, false, Err, Ok, Result, append_assoc, ◌<◌}
 use Rattle.std.specs.Prelude.{IfSome, slice_get, slice_set, insert}
 use Rattle.smart_base.specs.Lists.{Each}
-use Rattle.smart_base.specs.Views.{View, is_view}
-use Rattle.smart_statements.specs.Forms.{SignedBy}
-use Rattle.smart_statements.specs.declared.statement.Answer.{Answer}
+use Rattle.smart_base.specs.Views.{View, is_view, present}
 use Rattle.smart_messages.specs.Messages.{decoded}
-use Rattle.client_quorum.specs.Clients.{reply_read}
 use Rattle.client_quorum.specs.declared.client.Client.{Client}
 use Rattle.smart_messages.specs.declared.message.Message.{Message}
 use Rattle.smart_statements.specs.declared.entry.NodeEvent.{NodeEvent}
@@ -35,7 +34,7 @@ use Rattle.node_rules.specs.Steps.{Outcome, made_firm, step_of, leaving, opened,
 use Rattle.node_rules.specs.declared.node.Held.{Held}
 use Rattle.world_rules.specs.Repeats.{repeated}
 use Rattle.world_rules.specs.Secrets.{group_secret}
-use Rattle.world_rules.specs.Worlds.{course_of, Host, World, posts, sends_all, host_after, stepped, host_takes, node_takes, settle_once, settle_all, gives, heard_by, hearing, flow_once, hosts_from, begun, at_listed, host_crashed, host_resumed, from_to, is_up, is_halted, meets, takes_met, reaches, client_hears, hears_bytes, client_takes, outset_of, host_of_node, parts_held, new_host}
+use Rattle.world_rules.specs.Worlds.{chosen_with, course_of, Host, World, posts, sends_all, host_after, stepped, host_takes, node_takes, settle_once, settle_all, gives, hearing, flow_once, hosts_from, begun, at_listed, host_crashed, host_resumed, from_to, is_up, is_halted, meets, takes_met, reaches, client_hears, hears_bytes, client_takes, outset_of, host_of_node, parts_held, new_host, asked_in}
 use Rattle.world_rules.specs.Plays.{world_after}
 use Rattle.world_rules.specs.declared.line.Line.{Line}
 use Rattle.world_rules.specs.declared.message.Origin.{Origin}
@@ -45,12 +44,14 @@ use Rattle.world_rules.specs.declared.message.Content.TheVariants as contents
 use Rattle.world_rules.specs.declared.message.Sent.{Sent}
 use Rattle.replica_laws.specs.Sending.{IsOwn, RestsOn}
 use Rattle.replica_laws.proofs.Leaving.{leaving_rest}
+use Rattle.node_laws.proofs.Books.{least_decided}
+use Rattle.replica_laws.proofs.StartBy.{start-sound}
 use Rattle.replica_laws.proofs.Onward.{rests-more, HasDecided, HoldsRight, NodeRests, Onward, onward-step, rests-released, rests-opened, Longer, longer-append}
 use Rattle.world_laws.specs.Sending.{IsRested, Bears, IsBorneAt, IsBorne, SentFirm, IsOwnSent}
 use Rattle.world_laws.specs.Settling.{flow_begins, flow_goes, message_goes, node_goes, settles_present}
 use Rattle.world_laws.proofs.Lists.{each_set, each_get, repeated_keeps, each_from_keeps, each_insert}
 use Rattle.world_laws.proofs.Stores.{IsTold, may-told, firm-grows, LastFits, Stored, stored-called, stored-opened, stored-stepped}
-use Rattle.world_laws.proofs.Keeps.{after_call, called, ask_of, asked_by, by-posts, Keeps, KeepsCalm, live, calm, keeps-world_after, live-settle_once, live-settle, live-settle_all, live-flow_once, at_listed-keeps, signed_by, from_node, from_client, from_script, live-settles_present, IsDown, KeepsAll, with_host, node_resumed, is-up, give_one-keeps, goes-keeps, added}
+use Rattle.world_laws.proofs.Keeps.{after_call, called, ask_of, asked_by, by-posts, Keeps, KeepsCalm, KeepsNodes, live, calm, keeps-world_after, live-settle_once, live-settle, live-settle_all, live-flow_once, at_listed-keeps, signed_by, from_node, from_client, from_script, live-settles_present, IsDown, KeepsAll, with_host, node_resumed, is-up, give_one-keeps, goes-keeps, added}
 use Rattle.agreement_laws.proofs.Lists.{either, some_equal, each_end, either_by, not_false, among_left, among_right, each_both}
 use Rattle.smart_base.proofs.ViewFacts.{each-weaken}
 use Rattle.world_rules.specs.declared.line.Header.{Header}
@@ -59,7 +60,7 @@ use Rattle.node_laws.specs.Sound.{AreAmong, IsPast, IsSound, IsStatedEvent}
 use Rattle.node_laws.specs.Sound as sounds
 use Rattle.smart_statements.specs.Batches.{Batch}
 use Rattle.node_rules.specs.Transfers.{completed_by}
-use Rattle.vote_book.specs.Books.{HasMade, Lawful}
+use Rattle.vote_book.specs.Books.{HasMade, Lawful, last_made, Among}
 use Rattle.world_laws.proofs.Late.{AllPast, HeldLate, late-none, late-released, late-step}
 use Rattle.node_laws.specs.Restored.{IsSoundBook}
 use Rattle.agreement_laws.specs.Diaries.{IsShown}
@@ -76,10 +77,13 @@ use Rattle.replica_laws.proofs.Longer.{opening-step, secret-step}
 use Rattle.world_laws.proofs.ChosenSteps.{restored-step}
 use Rattle.node_laws.proofs.CutShown.{shown_in_whole}
 use Rattle.node_laws.proofs.More.{sound_more}
-use Rattle.node_laws.proofs.Passes.{sound_opened, sound_released, sound_step}
+use Rattle.node_laws.proofs.Passes.{sound_opened, sound_released, sound_step, sound_takes_in}
 use Rattle.node_laws.proofs.CutNodes.{sound_written}
 use Rattle.std.proofs.lemmas.List.{take-append-drop, take-append-le}
 use Rattle.std.proofs.Math.Seq.{take-append_seam}
+use Rattle.world_laws.proofs.ClientViews.{ClientsKnow, RightKnown, right-known, known-begun, view-at}
+use Rattle.client_quorum.specs.Readings.{word_read}
+use Rattle.client_quorum.specs.declared.client.Word.{Word}
 
 -- worlds
 
@@ -94,13 +98,13 @@ pub record GoesWell {S : Type 0} (view : View) (h : Host S) : Type 0 where
   pub both : h.life.diary ≡ first ++ later
   pub firm_is : take h.node.firm h.node.entries ≡ cut_at h.node.opening first ++ later
   pub first_sound : IsSoundBook h.node.secret told h.node.replica.views first
+  pub first_low : last_made first ≤ h.node.replica.place
   pub first_made : 0 < h.node.opening → HasMade first h.node.opening
   pub first_is : h.node.restored ≡ length (cut_at h.node.opening first)
   pub past : HeldLate h.node
 
 -- A node of a view, whose held messages are right; no more is firm than is written. Where it runs it goes well.
 pub record HostRests {S : Type 0} (view : View) (h : Host S) : Type 0 where
-  pub view_is : view_of h.node ≡ view
   pub rests : NodeRests h.node
   pub well : h.up ≡ true → GoesWell view h
   pub low : h.node.firm ≤ length h.node.entries
@@ -138,13 +142,13 @@ abbrev LeavesRight : {S : Type 0} → ℕ → List (Host S) → Held → Type 0
 LeavesRight id hosts h = IsOwn id h.to h.message × IsBorne hosts (origins.Node id) (contents.Message h.message)
 
 -- messages of a node leave
-borne-sends_all : {S : Type 0} (id : ℕ) (view : View) (w : World S) (held : List Held) → view ≡ w.view → Each (LeavesRight id w.hosts) held → Borne w → Borne (sends_all id view w held)
-borne-sends_all id view w [] same each is = is
-borne-sends_all {S = S} id view w (h ∷ hs) same each is =
-    let next : World S = posts w (from_node id view h) in
-    borne-sends_all id view next hs (same ∙ sym (view-stays w (from_node id view h)))
-    (each-weaken (LeavesRight id w.hosts) (LeavesRight id next.hosts) (λ x right. (right.0, borne-stays w (from_node id view h) (origins.Node id) (contents.Message x.message) right.1)) hs each.1)
-    (borne-posts w (from_node id view h) (record { view = w.view; known = first_there w.view w.chosen; target = h.to; addressed = ap (λ (v : View). heard_by v h.to) same; own = each.0.0 }) each.0.1 is)
+borne-sends_all : {S : Type 0} (id : ℕ) (view : View) (w : World S) (held : List Held) → Each (LeavesRight id w.hosts) held → Borne w → Borne (sends_all id view w held)
+borne-sends_all id view w [] each is = is
+borne-sends_all {S = S} id view w (h ∷ hs) each is =
+    let next : World S = posts w (from_node w id view h) in
+    borne-sends_all id view next hs
+    (each-weaken (LeavesRight id w.hosts) (LeavesRight id next.hosts) (λ x right. (right.0, borne-stays w (from_node w id view h) (origins.Node id) (contents.Message x.message) right.1)) hs each.1)
+    (borne-posts w (from_node w id view h) (record { view = view; asked = asked_in w.clients; target = h.to; addressed = refl; own = each.0.0 }) each.0.1 is)
 
 -- a host in another's place
 
@@ -233,11 +237,16 @@ told_event secret told Deliver = tt
 told_event secret told (Firm count) = tt
 
 -- the first entries stay sound where more has been stated and the node steps
-first-after : {S : Type 0} (m : Meaning S) (n : Node S) (event : NodeEvent) (told more : List Statement) → AreAmong told more → (first : List LogEntry) → IsSoundBook n.secret told n.replica.views first
-    → IsSoundBook (step_of m n event).node.secret more (step_of m n event).node.replica.views first
-first-after m n event told more grows first book =
-    subst (λ (vs : List View). IsSoundBook (step_of m n event).node.secret more vs first) (sym (views-step m n event))
-    (subst (λ (k : List ℕ). IsSoundBook k more n.replica.views first) (sym (secret-step m n event)) (book_more told more grows n.secret n.replica.views first book))
+first-after : {S : Type 0} (m : Meaning S) (view : View) (n : Node S) (event : NodeEvent) (told more : List Statement) → AreAmong told more → IsSound told view n → IsStatedEvent n.secret more event → (first : List LogEntry)
+    → last_made first ≤ n.replica.place → IsSoundBook n.secret told n.replica.views first → IsSoundBook (step_of m n event).node.secret more (step_of m n event).node.replica.views first
+first-after {S = S} m view n event told more grows was may first low book =
+    let n' : Node S = (step_of m n event).node in
+    let sound : IsSound more view n = sound_more told more grows view n was in
+    let later : IsSound more view n' = sound_step m more view n event sound may in
+    let g = grows-step m more view n event (sound_takes_in more view n event sound may) in
+    let own : IsSoundBook n.secret more n.replica.views first = book_more told more grows n.secret n.replica.views first book in
+    let within = book_ranged n.secret more n.replica.views (next_place n) first (omega (arith, low)) own in
+    subst (λ (k : List ℕ). IsSoundBook k more n'.replica.views first) (sym (secret-step m n event)) (book-grows n.secret more more more view n n' first sound later g within own).0
 
 -- a host whose node has stepped goes well
 well-after : {S : Type 0} (m : Meaning S) (view : View) (h : Host S) (event : NodeEvent) → Later h.node (step_of m h.node event).node → h.node.firm ≤ length h.node.entries → GoesWell view h
@@ -262,7 +271,8 @@ well-after {S = S} m view h event l low is =
       firm_is = sym (take-from n.firm n'.firm n'.entries l.more)
           ∙ (ap (λ (es : List LogEntry). es ++ new) (old ∙ is.firm_is)
           ∙ (append_assoc (cut_at n.opening is.first) is.later new ∙ ap (λ (k : ℕ). cut_at k is.first ++ (is.later ++ new)) (sym opening)));
-      first_sound = first-after m n event is.told told more is.first is.first_sound;
+      first_sound = first-after m view n event is.told told more is.sound (told_event n.secret is.told event) is.first is.first_low is.first_sound;
+      first_low = (let least = place-step m n event in let low = is.first_low in omega (arith, least, low));
       first_made = subst (λ (k : ℕ). 0 < k → HasMade is.first k) (sym opening) is.first_made;
       first_is = restored-step m n event ∙ (is.first_is ∙ ap (λ (k : ℕ). length (cut_at k is.first)) (sym opening));
       past = late-released n' (late-step m n event is.past);
@@ -273,7 +283,6 @@ rests-after : {S : Type 0} (m : Meaning S) (view : View) (h : Host S) (event : N
 rests-after {S = S} m view h event up later is =
     let n' : Node S = (step_of m h.node event).node in
     record {
-      view_is = view-step m h.node event ∙ is.view_is;
       rests = rests-released n' later.rests;
       well = λ up. well-after m view h event later is.low (is.well up);
       low = later.low;
@@ -329,7 +338,7 @@ leaving_borne {S = S} m view h event l low is =
     (λ x right past. (
       right.0,
       rests_on_diary view told n' is.first (is.later ++ new) after.life.diary x.message sound
-          (first-after m n event is.told told more is.first is.first_sound)
+          (first-after m view n event is.told told more is.sound (told_event n.secret is.told event) is.first is.first_low is.first_sound)
           (ap (λ (es : List LogEntry). es ++ new) is.both ∙ append_assoc is.first is.later new) firm
           (subst (λ (k : ℕ). 0 < k → HasMade is.first k) (sym opening) is.first_made)
           (restored-step m n event ∙ (is.first_is ∙ ap (λ (k : ℕ). length (cut_at k is.first)) (sym opening))) past right.1,
@@ -337,18 +346,25 @@ leaving_borne {S = S} m view h event l low is =
     (leaving n'.firm n'.held) (leaving_rest n'.id n'.firm n'.entries n'.held l.rests.held)
     (each-leaving (λ (x : Held). AllPast (take n'.restored n'.entries) x.message) n'.firm n'.held late.late)
 
+-- what a client may send it may send where more views are known
+own_longer : (views more : List View) (o : Origin) (to : List Party) (x : Content) → ((u : View) → Among u views → Among u more) → IsOwnSent views o to x → IsOwnSent more o to x
+own_longer views more (origins.Node id) to x all own = own
+own_longer views more (origins.Client id) to x all own = record { view = own.view; known = all own.view own.known; addressed = own.addressed; own = own.own }
+own_longer views more origins.Script to x all own = own
+
 -- a node's step
 borne-event : {S : Type 0} (m : Meaning S) (w : World S) (i : ℕ) (h : Host S) (event : NodeEvent) → h.up ≡ true → slice_get w.hosts i ≡ Some h → IsTold h event → Borne w
     → Borne (stepped (course_of m) w i h (step_of m h.node event))
 unfolding stepped
 borne-event {S = S} m w i h event up at told is =
     let o : Outcome S = step_of m h.node event in
+    let more : List Batch = chosen_with w.chosen (next_place o.node) o.node.waiting in
     let h' : Host S = host_after (course_of m) h o in
     let rests : HostRests w.view h = each_get (HostRests w.view) w.hosts i h is.hosts at in
     let later : Later h.node o.node = later-step m w.view h event up told rests in
     let new : HostRests w.view h' = rests-after m w.view h event up later rests in
     let b : Borne (with_host w i h') = borne-with w i h h' at later.id (longer-append h.life.diary (from_to h.node.firm o.node.firm o.node.entries)) new is in
-    borne-sends_all h.node.id (view_of o.node) _ (leaving o.node.firm o.node.held) new.view_is
+    borne-sends_all h.node.id (view_of o.node) _ (leaving o.node.firm o.node.held)
     (each-weaken (λ (x : Held). IsOwn o.node.id x.to x.message × RestsOn h'.life.diary x.message)
     (LeavesRight h.node.id (slice_set w.hosts i h'))
     (λ x right. (
@@ -356,7 +372,16 @@ borne-event {S = S} m w i h event up at told is =
       borne_here h.node.id (contents.Message x.message) w.hosts i h h' at (record { member = later.id; rested = right.1 }),
     ))
     (leaving o.node.firm o.node.held) (leaving_borne m w.view h event later rests.low (rests.well up)))
-    (record { viewed = b.viewed; hosts = b.hosts; sent = record { own = subst (λ (vs : List View). Each (λ (t : Sent). IsOwnSent vs t.origin t.to t.content) w.sent) (same_after w.view w.chosen _) b.sent.own; borne = b.sent.borne } })
+    (record {
+      viewed = b.viewed;
+      hosts = b.hosts;
+      sent = record {
+        own = each-weaken (λ (t : Sent). IsOwnSent (views_after w.view w.chosen) t.origin t.to t.content) (λ (t : Sent). IsOwnSent (views_after w.view more) t.origin t.to t.content)
+            (λ t own. own_longer (views_after w.view w.chosen) (views_after w.view more) t.origin t.to t.content
+            (λ u there. longer_there w.view w.chosen more u (chosen-front w.chosen (next_place o.node) o.node.waiting) there) own) w.sent b.sent.own;
+        borne = b.sent.borne;
+      };
+    })
 
 -- the store of a host makes a call
 borne-called : {S : Type 0} (m : Meaning S) (w : World S) (i : ℕ) (h : Host S) → slice_get w.hosts i ≡ Some h → Borne w → Borne (called (course_of m) w i h)
@@ -364,7 +389,6 @@ borne-called m w i h at is =
     let rests = each_get (HostRests w.view) w.hosts i h is.hosts at in
     borne-with w i h (after_call (course_of m) h) at refl (record { more = []; split = sym (append-nil h.life.diary) })
     (record {
-      view_is = rests.view_is;
       rests = rests.rests;
       well = λ up.
           let g : GoesWell w.view h = rests.well up in
@@ -377,6 +401,7 @@ borne-called m w i h at is =
             both = g.both;
             firm_is = g.firm_is;
             first_sound = g.first_sound;
+            first_low = g.first_low;
             first_made = g.first_made;
             first_is = g.first_is;
             past = g.past;
@@ -389,33 +414,43 @@ borne-crashed : {S : Type 0} (m : Meaning S) (w : World S) (i : ℕ) (h : Host S
 borne-crashed m w i h left at is =
     let rests = each_get (HostRests w.view) w.hosts i h is.hosts at in
     borne-with w i h (host_crashed (course_of m) h left) at refl (longer-append h.life.diary (drop (length h.life.diary) (take (count_kept left (book_left h)) (book_left h))))
-    (record { view_is = rests.view_is; rests = rests.rests; well = λ up. absurd (apart up); low = rests.low }) is
+    (record { rests = rests.rests; well = λ up. absurd (apart up); low = rests.low }) is
   where
     apart : false ≡ true → ⊥
     apart same = cc
 
--- each event keeps that, but that a node goes on
-pub keeps-borne : {S : Type 0} (m : Meaning S) → Keeps (course_of m) Borne
-unfolding hearing
-keeps-borne m =
-    record {
-      event = λ w i h event up at may is. borne-event m w i h event up.0 at (may-told w h event may.come) is;
-      disk = λ w i h up at is. borne-called m w i h at is;
-      crash = λ w i h left up at may is. borne-crashed m w i h left at is;
-      hear = λ w i c x a at has read is. record { viewed = is.viewed; hosts = is.hosts; sent = record { own = is.sent.own; borne = is.sent.borne } };
-      ask = λ w i c op at free few brief is.
-          borne-posts (asked_by w i c op) (from_client w.view c (ask_of c op)) (record { view = w.view; known = first_there w.view w.chosen; addressed = refl; own = refl }) tt
-          (record { viewed = is.viewed; hosts = is.hosts; sent = record { own = is.sent.own; borne = is.sent.borne } });
-      again = λ w i c q at waits is. borne-posts w (from_client w.view c (signed_by c q)) (record { view = w.view; known = first_there w.view w.chosen; addressed = refl; own = refl }) tt is;
-      learn = λ w i j c d at other is. record { viewed = is.viewed; hosts = is.hosts; sent = record { own = is.sent.own; borne = is.sent.borne } };
-      inject = λ w x read fine is. borne-posts w (from_script x) refl tt is;
-      declare = λ w faulty rogue ending how is. record { viewed = is.viewed; hosts = is.hosts; sent = record { own = is.sent.own; borne = is.sent.borne } };
-      same = λ w mark told is. record { viewed = is.viewed; hosts = is.hosts; sent = record { own = is.sent.own; borne = is.sent.borne } };
-      meet = λ w texts on is. record { viewed = is.viewed; hosts = is.hosts; sent = record { own = is.sent.own; borne = is.sent.borne } };
-    }
+-- what nodes do keeps that
+borne-nodes : {S : Type 0} (m : Meaning S) → KeepsNodes (course_of m) Borne
+borne-nodes m = record {
+  event = λ w i h event on up at may is. borne-event m w i h event up.0 at (may-told w h event may.come) is;
+  meet = λ w texts on is. record { viewed = is.viewed; hosts = is.hosts; sent = record { own = is.sent.own; borne = is.sent.borne } };
+  disk = λ w i h on up at is. borne-called m w i h at is;
+}
 
-borne-live : {S : Type 0} (m : Meaning S) → KeepsCalm (course_of m) Borne
-borne-live m = calm (course_of m) Borne (live (course_of m) Borne (keeps-borne m))
+-- where clients know views of the list alone, each event does, but that a node goes on
+keeps-borne : {S : Type 0} (m : Meaning S) (P : World S → Type 0) → ((w : World S) → P w → ClientsKnow w) → Keeps (course_of m) P → Keeps (course_of m) (λ w. P w × Borne w)
+unfolding hearing
+keeps-borne m P knows k =
+    record {
+      event = λ w i h event up at may is. (k.event w i h event up at may is.0, borne-event m w i h event up.0 at (may-told w h event may.come) is.1);
+      disk = λ w i h up at is. (k.disk w i h up at is.0, borne-called m w i h at is.1);
+      crash = λ w i h left up at may is. (k.crash w i h left up at may is.0, borne-crashed m w i h left at is.1);
+      hear = λ w i c x a on at has read is. (k.hear w i c x a on at has read is.0, record { viewed = is.1.viewed; hosts = is.1.hosts; sent = record { own = is.1.sent.own; borne = is.1.sent.borne } });
+      ask = λ w i c op at free few brief is. (
+        k.ask w i c op at free few brief is.0,
+        borne-posts (asked_by w i c op) (from_client c (ask_of c op)) (record { view = present c.views; known = view-at w i c at (knows w is.0); addressed = refl; own = refl }) tt
+            (record { viewed = is.1.viewed; hosts = is.1.hosts; sent = record { own = is.1.sent.own; borne = is.1.sent.borne } }),
+      );
+      again = λ w i c q at waits is. (
+        k.again w i c q at waits is.0,
+        borne-posts w (from_client c (signed_by c q)) (record { view = present c.views; known = view-at w i c at (knows w is.0); addressed = refl; own = refl }) tt is.1,
+      );
+      learn = λ w i j c d at other is. (k.learn w i j c d at other is.0, record { viewed = is.1.viewed; hosts = is.1.hosts; sent = record { own = is.1.sent.own; borne = is.1.sent.borne } });
+      inject = λ w x read fine is. (k.inject w x read fine is.0, borne-posts w (from_script x) refl tt is.1);
+      declare = λ w faulty rogue ending how is. (k.declare w faulty rogue ending how is.0, record { viewed = is.1.viewed; hosts = is.1.hosts; sent = record { own = is.1.sent.own; borne = is.1.sent.borne } });
+      same = λ w mark told is. (k.same w mark told is.0, record { viewed = is.1.viewed; hosts = is.1.hosts; sent = record { own = is.1.sent.own; borne = is.1.sent.borne } });
+      meet = λ w texts on is. (k.meet w texts on is.0, record { viewed = is.1.viewed; hosts = is.1.hosts; sent = record { own = is.1.sent.own; borne = is.1.sent.borne } });
+    }
 
 -- a sound node that holds nothing rests on its book
 rests-sound : {S : Type 0} (told : List Statement) (view : View) (n : Node S) → IsSound told view n → n.held ≡ [] → NodeRests n
@@ -423,6 +458,7 @@ rests-sound told view n is none = record {
   held = subst (λ (hs : List Held). Each (HoldsRight n.id n.entries) hs) (sym none) tt;
   waits = decided n.waiting is.waiting;
   lines = is.table;
+  views = start-sound view (last_made n.entries) n.replica.place n.replica.views (let last = is.last in let least = least_decided n.waiting n.replica.place in omega (arith, last, least)) is.views;
 }
   where
     decided : (waiting : Option Batch) → IfSome waiting (sounds.HasDecided n.entries (next_place n)) → IfSome waiting (HasDecided n.entries (next_place n))
@@ -445,7 +481,6 @@ borne-resumed {S = S} m service w i h down at r is =
     let vs : List View = views_after w.view w.chosen in
     borne-with w i h h' at on.name (record { more = []; split = sym (append-nil h.life.diary) })
     (record {
-      view_is = view_one m w.view w.chosen n next.wrote.at;
       rests = rests-sound (stated w.sent) w.view n next.sound (from_held m group_secret h.node.id w.view w.period (parts_held h));
       well = λ up. record {
         stored = record {
@@ -460,8 +495,12 @@ borne-resumed {S = S} m service w i h down at r is =
         both = run.both;
         firm_is = firm_parts n run.first run.later h.life.diary run.both run.diary run.first_made;
         first_sound = subst (λ (k : List ℕ). IsSoundBook k (stated w.sent) n.replica.views run.first) (sym next.shared)
-            (book_node m group_secret (stated w.sent) w.view w.chosen n run.first next.wrote.at
-            (front_of group_secret (stated w.sent) vs run.first run.later (subst (λ (es : List LogEntry). IsSoundBook group_secret (stated w.sent) vs es) run.both next.diary.sound)));
+            (front_of group_secret (stated w.sent) n.replica.views run.first run.later (subst (λ (es : List LogEntry). IsSoundBook group_secret (stated w.sent) n.replica.views es) run.both
+            (front_of group_secret (stated w.sent) n.replica.views h.life.diary on.resumed.more on.knows)));
+        first_low = (
+            let last = ap (λ (es : List LogEntry). last_made es) run.both ∙ last_append run.first run.later in
+            let reached = on.reached in
+            omega (arith, last, reached));
         first_made = run.first_made;
         first_is = run.first_is;
         past = late-none n (omega (arith, low, old)) (from_held m group_secret h.node.id w.view w.period (parts_held h));
@@ -479,7 +518,6 @@ hosts_rest m view period (id ∷ ids) viewed = (opened_rests m view period id vi
         let n : Node S = opened (outset m group_secret id view period) in
         let sound : IsSound [] view n = sound_opened m group_secret id view period viewed in
         record {
-          view_is = refl;
           rests = rests-opened m group_secret id view period;
           well = λ up. record {
             stored = stored-opened m group_secret id view period;
@@ -490,6 +528,7 @@ hosts_rest m view period (id ∷ ids) viewed = (opened_rests m view period id vi
             both = refl;
             firm_is = refl;
             first_sound = front_sound group_secret [] n.replica.views n.entries 0 (book_sound [] view n sound refl);
+            first_low = omega arith;
             first_made = λ some. absurd (omega (arith, some));
             first_is = refl;
             past = late-none n (omega arith) refl;
@@ -524,14 +563,21 @@ borne-added {S = S} m w i member is =
       };
     }
 
--- the list is right, and what was sent rests on entries that became firm
-pub right-borne : {S : Type 0} (m : Meaning S) → IsBrief m → IsRestorable m → KeepsAll (course_of m) (λ w. ChosenRight m w × Borne w)
+-- the list is right, clients know views of the list alone, and what was sent rests on entries that became firm
+abbrev pub RightBorne : {S : Type 0} → Meaning S → World S → Type 0
+RightBorne m w = RightKnown m w × Borne w
+
+pub right-borne : {S : Type 0} (m : Meaning S) → IsBrief m → IsRestorable m → KeepsAll (course_of m) (RightBorne m)
 right-borne m brief service =
+    let known = right-known m brief service in
     record {
-      kept = keeps-both (course_of m) (ChosenRight m) Borne (chosen-kept m brief service).kept (keeps-borne m);
-      resume = λ w i h down at is. ((chosen-kept m brief service).resume w i h down at is.0, borne-resumed m service w i h down at is.0 is.1);
-      add = λ w i member on new is. ((chosen-kept m brief service).add w i member on new is.0, borne-added m w i member is.1);
+      kept = keeps-borne m (RightKnown m) (λ w is. is.1) known.kept;
+      resume = λ w i h down at is. (known.resume w i h down at is.0, borne-resumed m service w i h down at is.0.0.0 is.1);
+      add = λ w i member on new is. (known.add w i member on new is.0, borne-added m w i member is.1);
     }
+
+right-live : {S : Type 0} (m : Meaning S) → IsBrief m → IsRestorable m → KeepsCalm (course_of m) (RightBorne m)
+right-live m brief service = calm (course_of m) (RightBorne m) (live (course_of m) (RightBorne m) (right-borne m brief service).kept)
 
 -- the worlds of a play
 
@@ -540,12 +586,12 @@ pub borne-begun : {S : Type 0} (m : Meaning S) (g : Header) → IsHeader g → B
 borne-begun m g is = record { viewed = is.viewed; hosts = hosts_rest m g.view g.period g.view.members is.viewed; sent = record { own = tt; borne = tt } }
 
 -- after any lines
-pub right_borne-after : {S : Type 0} (m : Meaning S) → IsBrief m → IsRestorable m → (g : Header) (ls : List Line) → IsHeader g → ChosenRight m (world_after (course_of m) (begun m g) ls) × Borne (world_after (course_of m) (begun m g) ls)
-right_borne-after m brief service g ls is = keeps-world_after (course_of m) (λ w. ChosenRight m w × Borne w) (right-borne m brief service) (begun m g) ls (chosen-begun m g is, borne-begun m g is)
+pub right_borne-after : {S : Type 0} (m : Meaning S) → IsBrief m → IsRestorable m → (g : Header) (ls : List Line) → IsHeader g → RightBorne m (world_after (course_of m) (begun m g) ls)
+right_borne-after m brief service g ls is = keeps-world_after (course_of m) (RightBorne m) (right-borne m brief service) (begun m g) ls (known-begun m g is, borne-begun m g is)
 
 -- so all that was sent is read
 pub genuine-after : {S : Type 0} (m : Meaning S) → IsBrief m → IsRestorable m → (g : Header) (ls : List Line) → IsHeader g → AllGenuine (world_after (course_of m) (begun m g) ls)
-genuine-after m brief service g ls is = all_genuine (world_after (course_of m) (begun m g) ls) (right_borne-after m brief service g ls is).0.0.0.fit
+genuine-after m brief service g ls is = all_genuine (world_after (course_of m) (begun m g) ls) (right_borne-after m brief service g ls is).0.0.0.0.0.fit
 
 borne-after : {S : Type 0} (m : Meaning S) → IsBrief m → IsRestorable m → (g : Header) (ls : List Line) → IsHeader g → Borne (world_after (course_of m) (begun m g) ls)
 borne-after m brief service g ls is = (right_borne-after m brief service g ls is).1
@@ -571,17 +617,17 @@ borne-node_takes {S = S} m i bytes w is = either (λ (v : World S). Borne v) (is
 -- and settles
 borne-gives : {S : Type 0} (m : Meaning S) (bytes : List ℕ) (i : ℕ) (w : World S) → Borne w → Borne (gives (course_of m) bytes i w)
 unfolding gives
-borne-gives m bytes i w is = live-settle (course_of m) Borne (borne-live m) i (node_takes (course_of m) i (Arrive bytes) w) (borne-node_takes m i bytes w is)
+borne-gives m bytes i w is = live-settle (course_of m) Borne (borne-nodes m) i (node_takes (course_of m) i (Arrive bytes) w) (borne-node_takes m i bytes w is)
 
 -- a client hears what bytes are read as
-borne-client_hears : {S : Type 0} (w : World S) (i : ℕ) (c : Client) (read : Option (SignedBy Answer)) → Borne w → Borne (client_hears w i c read)
+borne-client_hears : {S : Type 0} (w : World S) (i : ℕ) (c : Client) (read : Option Word) → Borne w → Borne (client_hears w i c read)
 unfolding hearing
 borne-client_hears w i c None is = record { viewed = is.viewed; hosts = is.hosts; sent = record { own = is.sent.own; borne = is.sent.borne } }
-borne-client_hears w i c (Some a) is = record { viewed = is.viewed; hosts = is.hosts; sent = record { own = is.sent.own; borne = is.sent.borne } }
+borne-client_hears w i c (Some word) is = record { viewed = is.viewed; hosts = is.hosts; sent = record { own = is.sent.own; borne = is.sent.borne } }
 
 borne-hears_bytes : {S : Type 0} (w : World S) (i : ℕ) (bytes : List ℕ) (found : Option Client) → Borne w → Borne (hears_bytes w i bytes found)
 borne-hears_bytes w i bytes None is = is
-borne-hears_bytes w i bytes (Some c) is = borne-client_hears w i c (reply_read (decoded bytes)) is
+borne-hears_bytes w i bytes (Some c) is = borne-client_hears w i c (word_read (decoded bytes)) is
 
 borne-client_takes : {S : Type 0} (i : ℕ) (bytes : List ℕ) (w : World S) → Borne w → Borne (client_takes i bytes w)
 unfolding client_takes
@@ -594,20 +640,24 @@ borne-reaches m members bytes (parties.Client id) w is = borne-client_takes id b
 
 -- a node goes on for some turns
 borne-turns : {S : Type 0} (m : Meaning S) (i k : ℕ) (w : World S) → Borne w → Borne (repeated (settle_once (course_of m) i) k w)
-borne-turns m i k w is = repeated_keeps Borne (settle_once (course_of m) i) (live-settle_once (course_of m) Borne (borne-live m) i) k w is
+borne-turns m i k w is = repeated_keeps Borne (settle_once (course_of m) i) (live-settle_once (course_of m) Borne (borne-nodes m) i) k w is
 
 -- as a flow begins
 pub firm-first : {S : Type 0} (m : Meaning S) → IsBrief m → IsRestorable m → (g : Header) → IsHeader g → (ls : List Line) (members : List ℕ) (nodes i k : ℕ)
     → SentFirm (repeated (settle_once (course_of m) i) k (flow_begins m g ls members nodes))
 firm-first m brief service g is ls members nodes i k =
     (borne-turns m i k (flow_begins m g ls members nodes)
-    (each_from_keeps Borne (at_listed members (settles_present m members)) (at_listed-keeps Borne members (settles_present m members) (live-settles_present (course_of m) Borne (borne-live m) members)) nodes 0 (world_after (course_of m) (begun m g) ls) (borne-after m brief service g ls is))).sent
+    (each_from_keeps (RightBorne m) (at_listed members (settles_present m members))
+    (at_listed-keeps (RightBorne m) members (settles_present m members) (live-settles_present (course_of m) (RightBorne m) (right-live m brief service) members)) nodes 0 (world_after (course_of m) (begun m g) ls)
+    (right_borne-after m brief service g ls is)).1).sent
 
 -- after some turns of it
 borne-flow : {S : Type 0} (m : Meaning S) → IsBrief m → IsRestorable m → (g : Header) → IsHeader g → (ls : List Line) (members : List ℕ) (turn : ℕ) → Borne (flow_goes m g ls members turn)
 borne-flow {S = S} m brief service g is ls members turn =
     let w : World S = world_after (course_of m) (begun m g) ls in
-    repeated_keeps Borne (flow_once (course_of m) members) (live-flow_once (course_of m) Borne (borne-live m) members) turn (settle_all (course_of m) members w) (live-settle_all (course_of m) Borne (borne-live m) members w (borne-after m brief service g ls is))
+    let keeps = right-live m brief service in
+    (repeated_keeps (RightBorne m) (flow_once (course_of m) members) (live-flow_once (course_of m) (RightBorne m) keeps members) turn (settle_all (course_of m) members w)
+    (live-settle_all (course_of m) (RightBorne m) keeps members w (right_borne-after m brief service g ls is))).1
 
 -- as bytes go to some parties in it, and a node takes them and goes on
 pub firm-given : {S : Type 0} (m : Meaning S) → IsBrief m → IsRestorable m → (g : Header) → IsHeader g → (ls : List Line) (members : List ℕ) (turn : ℕ) (bytes : List ℕ) (tos : List Party) (i k : ℕ)

@@ -1,17 +1,22 @@
 -- The list of chosen batches: each is certified, and every host stands along it.
-use Rattle.world_laws.proofs.OneViews.{book_at, certified_one}
-use Rattle.world_laws.proofs.InForce.{AreFew, backed_now, first_in_force, viewed_now}
-use Rattle.world_laws.specs.InForce.{IsInForce}
+use Rattle.node_laws.proofs.ListedViews.{after_are, present_there}
+use Rattle.node_laws.proofs.Views.{number_once}
+use Rattle.world_laws.proofs.ListViews.{IsTame, book_more_batches, front_there, longer_there}
+use Rattle.world_laws.proofs.InForce.{AreFew, backed_now, viewed_now, known_now}
+use Rattle.world_laws.proofs.Keeps.{few_of}
+use Rattle.world_laws.proofs.Listed.{held_at, all_alone}
+use Rattle.node_laws.proofs.CertifiedBooks.{certified_book}
+use Rattle.world_rules.specs.InForce.{IsInForce}
 use Rattle.std.proofs.Common.{◌≡◌, ℕ, zero, suc, ◌+◌, ◌-◌, ◌^◌, ◌<◌, ◌≤◌, ◌++◌, ◌==◌, Bool, cond, true, false, List, [], ◌∷◌, length, ◌∙◌, sym, refl, inl, inr, arith, Option, Some, None, subst, take, length-append, eqb-true, eq-eqb, ap}
 use Rattle.std.proofs.lemmas.List.{length-take-le}
 use Rattle.std.specs.Prelude.{IfSome, slice_get}
 use Rattle.smart_base.specs.Lists.{Each}
-use Rattle.smart_base.specs.Views.{View, is_view}
+use Rattle.smart_base.specs.Views.{View, is_view, present}
 use Rattle.smart_statements.specs.Batches.{Batch}
 use Rattle.smart_service.specs.Services.{Meaning}
 use Rattle.vote_book.specs.declared.entry.LogEntry.{LogEntry}
 use Rattle.vote_book.specs.declared.entry.LogEntry.TheVariants.{Decided}
-use Rattle.replica_rules.specs.Replicas.{state, executed_lines, batch_at, views_after}
+use Rattle.replica_rules.specs.Replicas.{state, executed_lines, batch_at, view_at, views_after}
 use Rattle.book_laws.specs.BookCuts.{cut_at}
 use Rattle.vote_book.specs.Books.{Among, HasMade, last_made}
 use Rattle.smart_service.specs.declared.replica.Replica.{Replica}
@@ -29,7 +34,7 @@ use Rattle.node_laws.specs.Restoring.{AreAlong}
 use Rattle.book_laws.proofs.Lists.{split_at}
 use Rattle.vote_book.proofs.Locks.{made_most}
 use Rattle.vote_book.specs.declared.entry.Decision.{Decision}
-use Rattle.node_laws.specs.Sound.{IsSound}
+use Rattle.node_laws.specs.Sound.{IsSound, IsWithin, view_for}
 use Rattle.node_laws.proofs.More.{sound_more}
 use Rattle.node_laws.specs.Restored.{IsSoundBook}
 use Rattle.node_laws.proofs.Restored.{front_sound, book_more}
@@ -40,7 +45,7 @@ use Rattle.world_laws.specs.Promises.{IsChosenAt, IsWitness}
 use Rattle.node_rules.specs.Deliveries.{AtPlaces}
 use Rattle.world_rules.specs.declared.message.Sent.{Sent}
 use Rattle.replica_laws.proofs.Follows.{WasDue}
-use Rattle.world_rules.specs.Stated.{stated_in, stated, diary, AreDecided}
+use Rattle.world_rules.specs.Stated.{stated_in, stated, diary, AreDecided, view_behind}
 use Rattle.world_laws.proofs.Lives.{Lasts}
 use Rattle.world_laws.proofs.Snapshots.{AreRestorable, IsRestorable, IsSnapshotAt, snapshot_longer}
 use Rattle.snapshot_form.specs.Replicas.{IsOfClients, is_first_view}
@@ -72,6 +77,9 @@ pub record HasWritten {S : Type 0} (sent : List Sent) (m : Meaning S) (view : Vi
   pub met : Each (EntryMet (IsMet sent)) whole
   pub past : h.node.opening ≤ h.node.replica.place
   pub at : IsAt m view chosen h.node
+  -- it is sound by the views that the node knows, and names no place past the node's next one
+  pub knows : IsSoundBook group_secret (stated sent) h.node.replica.views whole
+  pub bounded : Each (IsWithin h.node.replica.views (next_place h.node) whole) whole
 
 -- A host of the group whose node is sound and delivers in order, which decided no more than the list has, and delivered a batch for each place, the list's.
 -- Its store was asked for snapshots of the list alone. Its diary and the book that it put aside are such from which it may go on.
@@ -133,6 +141,10 @@ chosen-front chosen place (Some batch) =
     either (λ (c : List Batch). take (length chosen) c ≡ chosen) (place == length chosen + 1) (chosen ++ batch ∷ []) chosen
     (front-append chosen chosen (batch ∷ []) (front-same chosen)) (front-same chosen)
 
+-- so the views behind the list are among those behind it then
+pub chosen_there : (view : View) (chosen : List Batch) (place : ℕ) (waiting : Option Batch) (u : View) → Among u (views_after view chosen) → Among u (views_after view (chosen_with chosen place waiting))
+chosen_there view chosen place waiting u there = longer_there view chosen (chosen_with chosen place waiting) u (chosen-front chosen place waiting) there
+
 -- a node that is at a place of the list has decided no more than the list that it extends has
 pub within-step : {S : Type 0} (chosen : List Batch) (n' : Node S) (waiting : Option Batch) → n'.waiting ≡ waiting → n'.replica.place ≤ length chosen
     → decided_place n' ≤ length (chosen_with chosen (next_place n') waiting)
@@ -151,13 +163,21 @@ within-step chosen n' (Some batch) at reached =
 
 -- the list with the batch that waits is decided, if that batch is certified for its place
 pub certified-step : {S : Type 0} (T : List Statement) (view : View) (chosen : List Batch) (n : Node S) (waiting : Option Batch)
-    → IfSome waiting (λ (batch : Batch). Certified group_secret T view (next_place n) (digest_of batch)) → AreDecided T view chosen → AreDecided T view (chosen_with chosen (next_place n) waiting)
+    → IfSome waiting (λ (batch : Batch). next_place n ≡ length chosen + 1 → Certified group_secret T (view_behind view chosen) (next_place n) (digest_of batch)) → AreDecided T view chosen → AreDecided T view (chosen_with chosen (next_place n) waiting)
 certified-step T view chosen n None own all = all
 certified-step T view chosen n (Some batch) own all =
     either_by (λ (bs : List Batch). AreDecided T view bs) (next_place n == length chosen + 1) (chosen ++ batch ∷ []) chosen
-    (λ is. certified_end group_secret digest_of (λ front. view) T [] chosen batch all
-    (subst (λ (k : ℕ). Certified group_secret T view k (digest_of batch)) (eqb-true (next_place n) (length chosen + 1) is) own))
+    (λ is. let next = eqb-true (next_place n) (length chosen + 1) is in
+    certified_end group_secret digest_of (view_behind view) T [] chosen batch all
+    (subst (λ (k : ℕ). Certified group_secret T (view_behind view chosen) k (digest_of batch)) next (own next)))
     (λ isnt. all)
+
+-- the list gains one batch at most
+pub longer-step : {S : Type 0} (chosen : List Batch) (n : Node S) (waiting : Option Batch) → length (chosen_with chosen (next_place n) waiting) ≤ length chosen + 1
+longer-step chosen n None = omega arith
+longer-step chosen n (Some batch) =
+    either (λ (bs : List Batch). length bs ≤ length chosen + 1) (next_place n == length chosen + 1) (chosen ++ batch ∷ []) chosen
+    (let longer = length-append chosen (batch ∷ []) in omega (arith, longer)) (omega arith)
 
 -- it stays short, if the next place is low
 pub low-step : {S : Type 0} (chosen : List Batch) (n : Node S) (waiting : Option Batch) → IfSome waiting (λ (batch : Batch). next_place n < 2 ^ 63) → length chosen < 2 ^ 63
@@ -174,17 +194,34 @@ each-step P chosen n (Some batch) own all = either (λ (bs : List Batch). Each P
 
 -- what has been stated in a right world
 
+-- in each batch of the list a request of the view manager stands alone
+pub right_tame : {S : Type 0} (m : Meaning S) (w : World S) → WorldRight m w → IsTame w.view w.chosen
+right_tame m w r = record { viewed = r.viewed; alone = all_alone w.chosen r.of; low = r.low }
+
+-- a view of a place that has the number of one of the list's views is that one
+pub numbered_at : {S : Type 0} (m : Meaning S) (w : World S) → WorldRight m w → (place : ℕ) (u : View) → Among u (views_after w.view w.chosen) → (view_at w.view w.chosen place).number ≡ u.number
+    → view_at w.view w.chosen place ≡ u
+numbered_at m w r place u there same =
+    let tame = right_tame m w r in
+    number_once w.view (length w.chosen) (views_after w.view w.chosen) (after_are w.view w.chosen (length w.chosen) tame.viewed tame.alone tame.low (omega arith)) (view_at w.view w.chosen place) u
+    (front_there w.view (place - 1) w.chosen (view_at w.view w.chosen place) (present_there w.view (take (place - 1) w.chosen))) there same
+
 -- each member's diary is a witness
 pub right-witness : {S : Type 0} (m : Meaning S) (w : World S) → WorldRight m w → (member : ℕ) → IsWitness w member
 right-witness {S = S} m w r =
     witness-of w
     (each-weaken (HostRight w.sent m w.view w.chosen) (HostStands w)
-    (λ h right. record { lawful = right.diary.sound.lawful; backed = λ v force. backed_now w v force group_secret (stated w.sent) h.life.diary right.diary.sound }) w.hosts r.right)
+    (λ h right. record { lawful = right.diary.sound.lawful; ranged = right.diary.sound.ranged; backed = λ v force. backed_now w v force group_secret (stated w.sent) h.life.diary right.diary.sound }) w.hosts r.right)
     r.shown
 
 -- what members have stated is witnessed in each view in force
 pub right-witnessed : {S : Type 0} (m : Meaning S) (w : World S) → WorldRight m w → (v : View) → IsInForce w v → Witnessed group_secret digest_of v (is_among w.faulty) (diary w) (stated w.sent)
-right-witnessed m w r v force = witnessing w v force (viewed_now w v force r.viewed) (r.few v force) (right-witness m w r)
+right-witnessed m w r v force = witnessing w v force (viewed_now w v force r.viewed r.of r.low) (r.few.each v force) (right-witness m w r)
+
+-- each view that a node knows has witnesses
+pub known-witnessed : {S : Type 0} (m : Meaning S) (w : World S) → WorldRight m w → w.ending ≡ None → (u : View) (k : ℕ) → Among u (views_after w.view (take k w.chosen))
+    → Witnessed group_secret digest_of u (is_among w.faulty) (diary w) (stated w.sent)
+known-witnessed m w r on u k there = right-witnessed m w r u (known_now w u k (few_of w.faulty (views_after w.view w.chosen) u (r.few.calm on) (front_there w.view k w.chosen u there)) r.of there)
 
 -- so all marks of diaries are
 each_found : {S : Type 0} (P : Host S → Type 0) (hosts : List (Host S)) (member : ℕ) (h : Host S) → Each P hosts → host_of hosts member ≡ Some h → P h
@@ -215,13 +252,19 @@ pub decides-chosen : {S : Type 0} (m : Meaning S) (w : World S) (es : List LogEn
 decides-chosen {S = S} m w es d r met sound there k at low =
     let found = get_some w.chosen k low in
     let long : length (take k w.chosen) ≡ k = length-take-le k w.chosen (omega (arith, low)) in
-    let own : Certified group_secret (stated w.sent) w.view d.slot.place (digest_of d.batch) = certified_one group_secret (stated w.sent) w.view w.chosen es d sound there in
-    let listed : Certified group_secret (stated w.sent) w.view (length (take k w.chosen) + 1) (digest_of found.0) =
-    certified_get group_secret digest_of (λ front. w.view) (stated w.sent) [] w.chosen k found.0 r.1.certified found.1 in
+    let v : View = view_behind w.view (take k w.chosen) in
+    let before : d.slot.place - 1 ≡ k = omega (arith, at) in
+    let here_is : view_at w.view w.chosen d.slot.place ≡ v = ap (λ (i : ℕ). present (views_after w.view (take i w.chosen))) before in
+    let force : IsInForce w v = record { place = d.slot.place; low = omega (arith, at); within = inl (omega (arith, at, low)); is = here_is } in
+    let holds : view_for (views_after w.view w.chosen) d.slot.place ≡ Some v =
+    held_at w.view w.chosen d.slot.place r.1.viewed r.1.of r.1.low (omega (arith, at)) (omega (arith, at, low)) ∙ ap (λ (u : View). Some u) here_is in
+    let own : Certified group_secret (stated w.sent) v d.slot.place (digest_of d.batch) = certified_book group_secret (stated w.sent) (views_after w.view w.chosen) es d sound there v holds in
+    let listed : Certified group_secret (stated w.sent) v (length (take k w.chosen) + 1) (digest_of found.0) =
+    certified_get group_secret digest_of (view_behind w.view) (stated w.sent) [] w.chosen k found.0 r.1.certified found.1 in
     let same : length (take k w.chosen) + 1 ≡ d.slot.place = omega (arith, long, at) in
-    let here : Certified group_secret (stated w.sent) w.view d.slot.place (digest_of found.0) = subst (λ (p : ℕ). Certified group_secret (stated w.sent) w.view p (digest_of found.0)) same listed in
+    let here : Certified group_secret (stated w.sent) v d.slot.place (digest_of found.0) = subst (λ (p : ℕ). Certified group_secret (stated w.sent) v p (digest_of found.0)) same listed in
     let one : digest_of d.batch ≡ digest_of found.0 =
-    decided_once group_secret digest_of w.view (is_among w.faulty) (diary w) (stated w.sent) (right-witnessed m w r.1 w.view (first_in_force w)) d.slot.place own.regency here.regency (digest_of d.batch) (digest_of found.0) own.accepts here.accepts
+    decided_once group_secret digest_of v (is_among w.faulty) (diary w) (stated w.sent) (right-witnessed m w r.1 v force) d.slot.place own.regency here.regency (digest_of d.batch) (digest_of found.0) own.accepts here.accepts
     own.decision here.decision in
     let batch : d.batch ≡ found.0 = (grounded-exact w (d.batch ∷ []) r.0.0 (met, tt)).one d.batch found.0 (inl refl) (get_among w.chosen k found.0 found.1) one in
     ap (λ (p : ℕ). batch_at w.chosen p) at ∙ (found.1 ∙ ap (λ (b : Batch). Some b) (sym batch))
@@ -272,16 +315,26 @@ chosen_longer m view chosen more front d is =
           ∙ ap (λ (bs : List Batch). length (executed_lines m (state m view bs) d.batch)) (front-take chosen more (d.place - 1) front (place_low chosen d.place d.batch is.batch));
     }
 
-pub book_longer : (sent : List Sent) (view : View) (chosen more : List Batch) → take (length chosen) more ≡ chosen → (es : List LogEntry) → BookRight sent view chosen es → BookRight sent view more es
-book_longer sent view chosen more front es b = record { sound = book_at group_secret (stated sent) view chosen more es b.sound; within = omega (arith, b.within, front-length chosen more front) }
+pub book_longer : (sent : List Sent) (view : View) (chosen more : List Batch) → IsTame view more → take (length chosen) more ≡ chosen → (es : List LogEntry) → BookRight sent view chosen es → BookRight sent view more es
+book_longer sent view chosen more tame front es b = record { sound = book_more_batches group_secret (stated sent) view chosen more es tame front b.within b.sound; within = omega (arith, b.within, front-length chosen more front) }
 
-wrote_longer : {S : Type 0} (sent : List Sent) (m : Meaning S) (view : View) (chosen more : List Batch) → take (length chosen) more ≡ chosen → (h : Host S) (whole : List LogEntry) → HasWritten sent m view chosen h whole
+wrote_longer : {S : Type 0} (sent : List Sent) (m : Meaning S) (view : View) (chosen more : List Batch) → IsTame view more → take (length chosen) more ≡ chosen → (h : Host S) (whole : List LogEntry) → HasWritten sent m view chosen h whole
     → HasWritten sent m view more h whole
-wrote_longer sent m view chosen more front h whole w = record { is = w.is; cut = w.cut; made = w.made; right = book_longer sent view chosen more front whole w.right; met = w.met; past = w.past; at = at_longer m view chosen more h.node front w.at }
+wrote_longer sent m view chosen more tame front h whole w = record {
+  is = w.is;
+  cut = w.cut;
+  made = w.made;
+  right = book_longer sent view chosen more tame front whole w.right;
+  met = w.met;
+  past = w.past;
+  at = at_longer m view chosen more h.node front w.at;
+  knows = w.knows;
+  bounded = w.bounded;
+}
 
-pub host_longer : {S : Type 0} (sent : List Sent) (m : Meaning S) (view : View) (chosen more : List Batch) → take (length chosen) more ≡ chosen → (h : Host S) → HostRight sent m view chosen h
+pub host_longer : {S : Type 0} (sent : List Sent) (m : Meaning S) (view : View) (chosen more : List Batch) → IsTame view more → take (length chosen) more ≡ chosen → (h : Host S) → HostRight sent m view chosen h
     → HostRight sent m view more h
-host_longer sent m view chosen more front h r =
+host_longer sent m view chosen more tame front h r =
     record {
       sound = r.sound;
       shared = r.shared;
@@ -290,13 +343,13 @@ host_longer sent m view chosen more front h r =
       lasts = r.lasts;
       snapshots = each-weaken (IsSnapshotAt m view chosen) (IsSnapshotAt m view more) (snapshot_longer m view chosen more front) r.all r.snapshots;
       whole = r.whole;
-      wrote = wrote_longer sent m view chosen more front h r.whole r.wrote;
+      wrote = wrote_longer sent m view chosen more tame front h r.whole r.wrote;
       count = r.count;
       places = r.places;
       agrees = each-weaken (IsChosenAt m view chosen) (IsChosenAt m view more) (chosen_longer m view chosen more front) h.delivered r.agrees;
       earlier = each-weaken (IsChosenAt m view chosen) (IsChosenAt m view more) (chosen_longer m view chosen more front) h.earlier r.earlier;
-      diary = book_longer sent view chosen more front h.life.diary r.diary;
-      aside = book_longer sent view chosen more front h.life.aside r.aside;
+      diary = book_longer sent view chosen more tame front h.life.diary r.diary;
+      aside = book_longer sent view chosen more tame front h.life.aside r.aside;
       few = r.few;
     }
 
@@ -306,7 +359,7 @@ host_longer sent m view chosen more front h r =
 pub certified_sent : (sent : List Sent) (s : Sent) (view : View) (batches : List Batch) → AreDecided (stated sent) view batches → AreDecided (stated (sent ++ s ∷ [])) view batches
 certified_sent sent s view batches all =
     subst (λ (xs : List Statement). AreDecided xs view batches) (sym (stated-end sent s))
-    (certified_more group_secret digest_of (λ front. view) (stated sent) (stated_in s.content) [] batches all)
+    (certified_more group_secret digest_of (view_behind view) (stated sent) (stated_in s.content) [] batches all)
 
 book_sent : (sent : List Sent) (s : Sent) (view : View) (chosen : List Batch) (es : List LogEntry) → BookRight sent view chosen es → BookRight (sent ++ s ∷ []) view chosen es
 book_sent sent s view chosen es b = record {
@@ -318,7 +371,17 @@ met_sent : (sent : List Sent) (s : Sent) (es : List LogEntry) → Each (EntryMet
 met_sent sent s es met = each-weaken (EntryMet (IsMet sent)) (EntryMet (IsMet (sent ++ s ∷ []))) (entry-weaker (IsMet sent) (IsMet (sent ++ s ∷ [])) (met-grows sent s)) es met
 
 wrote_sent : {S : Type 0} (sent : List Sent) (s : Sent) (m : Meaning S) (view : View) (chosen : List Batch) (h : Host S) (whole : List LogEntry) → HasWritten sent m view chosen h whole → HasWritten (sent ++ s ∷ []) m view chosen h whole
-wrote_sent sent s m view chosen h whole w = record { is = w.is; cut = w.cut; made = w.made; right = book_sent sent s view chosen whole w.right; met = met_sent sent s whole w.met; past = w.past; at = w.at }
+wrote_sent sent s m view chosen h whole w = record {
+  is = w.is;
+  cut = w.cut;
+  made = w.made;
+  right = book_sent sent s view chosen whole w.right;
+  met = met_sent sent s whole w.met;
+  past = w.past;
+  at = w.at;
+  knows = book_more (stated sent) (stated (sent ++ s ∷ [])) (among-all (stated sent) (stated (sent ++ s ∷ [])) (stated-grows sent s)) group_secret h.node.replica.views whole w.knows;
+  bounded = w.bounded;
+}
 
 -- and who is right
 pub host_sent : {S : Type 0} (sent : List Sent) (s : Sent) (m : Meaning S) (view : View) (chosen : List Batch) (h : Host S) → HostRight sent m view chosen h → HostRight (sent ++ s ∷ []) m view chosen h

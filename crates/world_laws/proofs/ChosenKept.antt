@@ -1,6 +1,9 @@
 -- Each event of a world keeps the list of chosen batches right.
-use Rattle.world_laws.proofs.InForce.{few_now, first_in_force}
-use Rattle.world_laws.proofs.OneViews.{book_list, certified_one}
+use Rattle.node_laws.proofs.Stated.{may_stand}
+use Rattle.world_laws.proofs.ListViews.{IsTame, book_list, front_there, node_views}
+use Rattle.world_laws.proofs.InForce.{few_grown, fewer, none_many, same_few}
+use Rattle.world_laws.proofs.Listed.{held_at}
+use Rattle.node_laws.proofs.CertifiedBooks.{certified_book}
 use Rattle.store_laws.specs.Restored.{Images, restores}
 use Rattle.store_laws.specs.States.{MayLeave, StoreState}
 use Rattle.node_laws.proofs.Restored.{book_sound}
@@ -8,25 +11,24 @@ use Rattle.world_laws.proofs.Few.{may-have, few-opened, few-book}
 use Rattle.world_laws.proofs.Fitting.{FitHost, own-fits, spelled-life, step-fit}
 use Rattle.world_laws.proofs.Lives.{book_left, lasts-opened, Stopped, has_diary, left_made, left_texts, left_upto, life-firm, place_left}
 use Rattle.world_laws.proofs.ChosenLives.{GoesOn, all_states, goes_on, host-called, host-crashes, host-resumes, node_left, own_left}
-use Rattle.std.proofs.Common.{◌^◌, ◌<◌, ◌≡◌, ⊎_elim, ◌⊎◌, inl, inr, ℕ, ◌≤◌, true, false, List, [], ◌∷◌, ◌++◌, length, refl, ap, ◌∙◌, sym, arith, Option, Some, None, subst, take, length-append, zero, suc, nat_lt, filter, drop, nat_le, not, ◌&&◌, append-nil, append_assoc, ◌==◌, is_some}
+use Rattle.std.proofs.Common.{◌+◌, ◌-◌, ◌^◌, ◌<◌, ◌≡◌, ⊎_elim, ◌⊎◌, inl, inr, ℕ, ◌≤◌, true, false, List, [], ◌∷◌, ◌++◌, length, refl, ap, ◌∙◌, sym, arith, Option, Some, None, subst, take, length-append, zero, suc, nat_lt, filter, drop, nat_le, ◌&&◌, append-nil, append_assoc, ◌==◌, is_some}
 use Rattle.std.proofs.lemmas.Bool.{le-ltb, ltb-true, leb-true}
 use Rattle.std.specs.Prelude.{IfSome, map, slice_get, slice_set}
 use Rattle.std.specs.List.{flat_map, list_all, list_any}
 use Rattle.smart_base.specs.Lists.{Each, same_bytes}
-use Rattle.smart_base.specs.Views.{View, is_view}
+use Rattle.smart_base.specs.Views.{View, is_view, present}
 use Rattle.smart_base.specs.declared.party.Party.{Party}
 use Rattle.smart_base.specs.declared.party.Party.TheVariants as parties
 use Rattle.smart_statements.specs.Forms.{SignedBy}
 use Rattle.smart_statements.specs.Kinds.{requests}
 use Rattle.smart_statements.specs.Batches.{Batch}
 use Rattle.smart_statements.specs.declared.statement.Request.{Request}
-use Rattle.smart_statements.specs.declared.statement.Answer.{Answer}
 use Rattle.smart_messages.specs.declared.message.Message.TheVariants.{Ask}
 use Rattle.smart_statements.specs.declared.entry.NodeEvent.{NodeEvent}
 use Rattle.smart_service.specs.Services.{Meaning}
 use Rattle.vote_book.specs.Books.{Among, HasMade}
 use Rattle.replica_rules.specs.Replicas.{batch_at, views_after}
-use Rattle.replica_rules.specs.Seals.{fits, signed, digest_of, is_managers, is_verified, request_fits}
+use Rattle.replica_rules.specs.Seals.{fits, signed, digest_of, is_verified, request_fits}
 use Rattle.node_rules.specs.Nodes.{Node, next_place, view_of}
 use Rattle.node_rules.specs.Steps.{step_of, leaving, opened, takes_in}
 use Rattle.node_rules.specs.declared.node.Held.{Held}
@@ -36,21 +38,22 @@ use Rattle.agreement_laws.specs.Lists.{Certified}
 use Rattle.vote_book.specs.declared.entry.LogEntry.{LogEntry}
 use Rattle.smart_base.proofs.ViewFacts.{each-weaken}
 use Rattle.client_quorum.specs.Clients.{request_of}
-use Rattle.node_laws.specs.Sound.{HasBatch, IsSound}
+use Rattle.node_laws.specs.Sound.{HasBatch, IsSound, view_for}
 use Rattle.node_laws.proofs.Passes.{sound_opened}
 use Rattle.world_rules.specs.Secrets.{group_secret}
-use Rattle.world_rules.specs.Clients.{heard}
-use Rattle.world_rules.specs.Worlds.{Course, course_of, Host, World, from_to, posts, sends_all, chosen_with, host_after, stepped, hearing, hosts_from, begun, host_of_node, host_resumed, host_crashed, meets, outset_of, snapshot_in, written, new_host}
+use Rattle.world_rules.specs.Clients.{heard_word}
+use Rattle.world_rules.specs.Worlds.{Course, course_of, Host, World, from_to, posts, sends_all, chosen_with, host_after, stepped, hearing, hosts_from, begun, host_of_node, host_resumed, host_crashed, meets, outset_of, snapshot_in, written, new_host, ending_few}
 use Rattle.world_rules.specs.Plays.{world_after}
 use Rattle.world_rules.specs.Premises.{is_among, is_excused, is_forged, too_many}
 use Rattle.world_laws.specs.Promises.{IsHeader, IsNext, IsPrefix}
 use Rattle.world_rules.specs.declared.line.Line.{Line}
 use Rattle.client_quorum.specs.declared.client.Client.{Client}
+use Rattle.client_quorum.specs.declared.client.Word.{Word}
 use Rattle.client_quorum.specs.declared.client.Heard.{Heard}
 use Rattle.world_rules.specs.declared.message.Content.{Content}
 use Rattle.world_rules.specs.declared.message.Content.TheVariants as contents
 use Rattle.world_rules.specs.declared.message.Sent.{Sent}
-use Rattle.world_rules.specs.Stated.{HasDiary, stated_in, stated, IsWitnessed}
+use Rattle.world_rules.specs.Stated.{HasDiary, stated_in, stated, IsWitnessed, view_behind}
 use Rattle.world_laws.proofs.Lists.{each_set, each_get, each_insert}
 use Rattle.world_laws.proofs.Keeps.{after_call, IsRead, called, ask_of, asked_by, by-posts, by-posts-ended, IsUp, Keeps, KeepsBut, MayTake, keeps-world_after, ReadsSent, MayRead, may_read, signed_by, from_node, from_client, from_script, IsDown, KeepsAll, with_host, entries_left, node_resumed, IsNew, added}
 use Rattle.replica_laws.proofs.Small.{IsBrief}
@@ -58,12 +61,12 @@ use Rattle.world_laws.proofs.NoClash.{IsMet, IsTextMet, text-grows}
 use Rattle.world_laws.proofs.Grounded.{grounded-event, grounded-reads, keeps-grounded, grounded-begun, HostMet, grounded-resumes, EntryMet, grounded-added}
 use Rattle.world_laws.proofs.Unforged.{keeps-unforged, fine_own}
 use Rattle.world_laws.proofs.Aligned.{Aligned, AllAligned}
-use Rattle.world_laws.proofs.Fronts.{front-same}
+use Rattle.world_laws.proofs.Fronts.{front-length, front-same}
 use Rattle.world_laws.proofs.Stating.{IsSaid, message_says}
 use Rattle.replica_laws.proofs.Longer.{front_same}
 use Rattle.world_laws.proofs.Stores.{IsTold, may-told}
 use Rattle.world_laws.proofs.Witnessing.{stated-grows, StatesShown, ShowsOwn, Firmer, firm_of, shown-faulty, shown-sent, shown-set, leave_shown, IsShownAt, ids-set, shown-added}
-use Rattle.world_laws.proofs.Chosen.{HostRight, WorldRight, Based, ChosenRight, are_restorable, book-along, chosen-front, certified-step, right-witnessed, host_longer, certified_sent, host_sent, BookRight, none_right, each-step, low-step}
+use Rattle.world_laws.proofs.Chosen.{HostRight, WorldRight, Based, ChosenRight, are_restorable, book-along, chosen-front, certified-step, right-witnessed, host_longer, certified_sent, host_sent, BookRight, none_right, each-step, longer-step, low-step, right_tame}
 use Rattle.world_rules.specs.declared.line.Header.{Header}
 use Rattle.vote_book.specs.declared.entry.LogEntry.TheVariants.{Decided}
 use Rattle.vote_book.specs.declared.entry.Decision.{Decision}
@@ -74,7 +77,7 @@ use Rattle.vote_book.specs.Entries.{FitsEntry, entry_text}
 use Rattle.world_laws.proofs.Wholes.{IsAt, decided_at, waiting_decided}
 use Rattle.snapshot_form.specs.Replicas.{IsOfClients}
 use Rattle.world_laws.proofs.Snapshots.{IsRestorable, IsSnapshotAt}
-use Rattle.world_laws.proofs.ChosenSteps.{IsSourced, Later, goes_later, host-stepped, leaves_shown, settles, stands}
+use Rattle.world_laws.proofs.ChosenSteps.{IsSourced, Later, goes_later, host-stepped, leaves_shown, settles, stands, tame}
 use Rattle.smart_base.specs.declared.limits.TheConstants.{LAST_CLIENT}
 use Rattle.node_laws.proofs.Lists.{all_each}
 use Rattle.smart_base.proofs.SameLists.{and_true}
@@ -87,7 +90,7 @@ use Rattle.world_laws.proofs.Reopens.{GoesBehind, node_behind}
 use Rattle.world_laws.proofs.Ahead.{one_of, written_fits}
 use Rattle.world_laws.proofs.Fetching.{IsFetchMet, fetch-longer, fetch-step, fetch-taken}
 use Rattle.world_laws.proofs.MarksRight.{HostMarks, marks-called, marks-crashed, marks-opened, marks-resumed, marks-stepped, marks_longer}
-use Rattle.world_laws.proofs.Meeting.{all-met, met-goes_on, met-more}
+use Rattle.world_laws.proofs.Meeting.{all-met, few-goes_on, met-goes_on, met-more}
 use Rattle.world_rules.specs.Premises.{all_marked}
 use Rattle.store_form.specs.declared.checkpoint.Checkpoint.{Checkpoint}
 use Rattle.store_laws.specs.Asked.{IsOneOf}
@@ -120,7 +123,7 @@ right-posts {S = S} m w s states r =
       viewed = r.viewed;
       period_fits = r.period_fits;
       certified = r.certified;
-      few = few_now _ (r.few w.view (first_in_force w));
+      few = same_few w _ refl refl refl (λ on. absurd (ended on)) r.few;
       shown = r.shown;
       begins = r.begins;
       low = r.low;
@@ -135,7 +138,7 @@ right-posts {S = S} m w s states r =
       viewed = r.viewed;
       period_fits = r.period_fits;
       certified = certified_sent w.sent s w.view w.chosen r.certified;
-      few = few_now _ (r.few w.view (first_in_force w));
+      few = same_few w _ refl refl refl (λ on. on) r.few;
       shown = shown-sent w.faulty w.sent s w.hosts states r.shown;
       begins = r.begins;
       low = r.low;
@@ -157,11 +160,11 @@ right-sends_all : {S : Type 0} (m : Meaning S) (id : ℕ) (view : View) (w : Wor
     → WorldRight m (sends_all id view w held)
 right-sends_all m id view w [] each r = r
 right-sends_all {S = S} m id view w (h ∷ hs) each r =
-    let next : World S = posts w (from_node id view h) in
+    let next : World S = posts w (from_node w id view h) in
     right-sends_all m id view next hs
     (each-weaken (λ (x : Held). StatesShown w.faulty (stated w.sent) w.hosts (contents.Message x.message)) (λ (x : Held). StatesShown next.faulty (stated next.sent) next.hosts (contents.Message x.message))
-    (λ x states. states-posts w (from_node id view h) (contents.Message x.message) states) hs each.1)
-    (right-posts m w (from_node id view h) each.0 r)
+    (λ x states. states-posts w (from_node w id view h) (contents.Message x.message) states) hs each.1)
+    (right-posts m w (from_node w id view h) each.0 r)
 
 -- a client is no member
 pub no_member : (i j : ℕ) → parties.Client i ≡ parties.Member j → ⊥
@@ -239,7 +242,7 @@ pub may_fit : (secret : List ℕ) (place : ℕ) (digest : List ℕ) (batch : Bat
 unfolding is_batch_for
 may_fit secret place digest batch is =
     fits_each secret batch place
-    (and_true (fits secret batch place) (not (list_any is_managers batch)) (and_true (fits secret batch place && not (list_any is_managers batch)) (same_bytes (digest_of batch) digest) is).0).0
+    (and_true (fits secret batch place) (same_bytes (digest_of batch) digest) is).0
 
 -- each batch that a book decides is of clients that there are
 all_of_clients : (secret : List ℕ) (place : ℕ) (batch : Batch) → Each (λ q. request_fits secret place q ≡ true) batch → Each (λ q. q.statement.client ≤ LAST_CLIENT) batch
@@ -249,31 +252,35 @@ all_of_clients secret place (q ∷ qs) each =
     let one = and_true (nat_le q.statement.client LAST_CLIENT) (nat_lt q.statement.after place) two.0 in
     (leb-true q.statement.client LAST_CLIENT one.0, all_of_clients secret place qs each.1)
 
--- what is known of a batch that a book decides at a place: it is certified there, the place is low, and its clients are clients
-record IsDecidedRight (sent : List Sent) (view : View) (place : ℕ) (batch : Batch) : Type 0 where
-  certified : Certified group_secret (stated sent) view place (digest_of batch)
+-- what is known of a batch that a book decides at a place: it is certified there in the view that holds the place, the place is low, and its clients are clients
+record IsDecidedRight (sent : List Sent) (views : List View) (place : ℕ) (batch : Batch) : Type 0 where
+  certified : (v : View) → view_for views place ≡ Some v → Certified group_secret (stated sent) v place (digest_of batch)
   low : place < 2 ^ 63
   of : IsOfClients batch
 
 decided-right : (sent : List Sent) (view : View) (chosen : List Batch) (es : List LogEntry) (d : Decision) → IsSoundBook group_secret (stated sent) (views_after view chosen) es → Each FitsEntry es → Among (Decided d) es
-    → IsDecidedRight sent view d.slot.place d.batch
+    → IsDecidedRight sent (views_after view chosen) d.slot.place d.batch
 decided-right sent view chosen es d sound spelled there =
     let fit : FitsEntry (Decided d) = each_among FitsEntry es (Decided d) spelled there in
     let has : HasBatch group_secret (stated sent) (Decided d) = each_among (HasBatch group_secret (stated sent)) es (Decided d) sound.batches there in
     record {
-      certified = certified_one group_secret (stated sent) view chosen es d sound there;
+      certified = λ v holds. certified_book group_secret (stated sent) (views_after view chosen) es d sound there v holds;
       low = fit.slot_fits.place_fits.1;
-      of = (fit.batch_fits, all_of_clients group_secret d.slot.place d.batch (all_each (request_fits group_secret d.slot.place) d.batch (may_fit group_secret d.slot.place (digest_of d.batch) d.batch has.may)));
+      of = (
+        fit.batch_fits,
+        all_of_clients group_secret d.slot.place d.batch (all_each (request_fits group_secret d.slot.place) d.batch (may_fit group_secret d.slot.place (digest_of d.batch) d.batch has.may)),
+        (may_stand group_secret d.slot.place (digest_of d.batch) d.batch has.may).alone,
+      );
     }
 
 -- the batch that waits at a right host, if there is one
 waits-right : {S : Type 0} (sent : List Sent) (m : Meaning S) (view : View) (chosen : List Batch) (h : Host S) → (hr : HostRight sent m view chosen h) → Each FitsEntry hr.whole → (waiting : Option Batch)
-    → h.node.waiting ≡ waiting → IfSome waiting (IsDecidedRight sent view (next_place h.node))
+    → h.node.waiting ≡ waiting → IfSome waiting (IsDecidedRight sent (views_after view chosen) (next_place h.node))
 waits-right sent m view chosen h hr spelled None at = tt
 waits-right sent m view chosen h hr spelled (Some batch) at =
     let is = waiting_decided (stated sent) view hr.whole h.node batch hr.sound hr.wrote.cut at in
-    subst (λ (b : Batch). IsDecidedRight sent view (next_place h.node) b) is.batch_is
-    (subst (λ (k : ℕ). IsDecidedRight sent view k is.decision.batch) is.place_is (decided-right sent view chosen hr.whole is.decision hr.wrote.right.sound spelled is.there))
+    subst (λ (b : Batch). IsDecidedRight sent (views_after view chosen) (next_place h.node) b) is.batch_is
+    (subst (λ (k : ℕ). IsDecidedRight sent (views_after view chosen) k is.decision.batch) is.place_is (decided-right sent view chosen hr.whole is.decision hr.wrote.right.sound spelled is.there))
 
 each_waits : (P Q : Batch → Type 0) (waiting : Option Batch) → ((batch : Batch) → P batch → Q batch) → IfSome waiting P → IfSome waiting Q
 each_waits P Q None all is = tt
@@ -282,6 +289,15 @@ each_waits P Q (Some batch) all is = all batch is
 -- all that a host's members have written is few entries
 whole-few : {S : Type 0} (m : Meaning S) (w : World S) (h : Host S) (chosen : List Batch) → length w.sent ≤ 2 ^ 24 → (hr : HostRight w.sent m w.view chosen h) → length hr.whole < 2 ^ 28
 whole-few m w h chosen short hr = few-book group_secret (stated w.sent) (views_after w.view chosen) w.sent hr.whole hr.wrote.right.sound hr.few.written_from short
+
+-- the view in force behind the list holds the next place, also by the views of a longer list
+next_holds : (view : View) (chosen more : List Batch) (place : ℕ) → is_view view ≡ true → Each IsOfClients more → length more < 2 ^ 63 → take (length chosen) more ≡ chosen → place ≡ length chosen + 1
+    → view_for (views_after view more) place ≡ Some (view_behind view chosen)
+next_holds view chosen more place viewed of low front next =
+    let long = front-length chosen more front in
+    let before : place - 1 ≡ length chosen = omega (arith, next) in
+    held_at view more place viewed of low (omega (arith, next)) (omega (arith, next, long))
+    ∙ ap (λ (bs : List Batch). Some (present (views_after view bs))) (ap (λ (k : ℕ). take k more) before ∙ front)
 
 -- the world behind it
 right-event : {S : Type 0} (m : Meaning S) → IsRestorable m → (w : World S) (i : ℕ) (h : Host S) (event : NodeEvent) → w.ending ≡ None → h.up ≡ true → slice_get w.hosts i ≡ Some h → MayRead w h event → IsSourced w event
@@ -299,7 +315,13 @@ right-event {S = S} m service w i h event on up at may came told text fit r =
     let written_fit : Each FitsEntry (written h') =
     written_fits h' (life-firm FitsEntry h.life h.node n' fit.book (spelled-life h.life (host-fit m w i h at r).life)).diary fit.book in
     let spelled : Each FitsEntry here.whole = subst (λ (es : List LogEntry). Each FitsEntry es) (sym (here.wrote.is up)) written_fit in
-    let waits : IfSome n'.waiting (IsDecidedRight w.sent w.view (next_place n')) = waits-right w.sent m w.view more h' here spelled n'.waiting refl in
+    let waits : IfSome n'.waiting (IsDecidedRight w.sent (views_after w.view more) (next_place n')) = waits-right w.sent m w.view more h' here spelled n'.waiting refl in
+    let low : length more < 2 ^ 63 =
+    low-step w.chosen n' n'.waiting (each_waits (IsDecidedRight w.sent (views_after w.view more) (next_place n')) (λ (batch : Batch). next_place n' < 2 ^ 63) n'.waiting (λ batch is. is.low) waits) r.1.low in
+    let of : Each IsOfClients more =
+    each-step IsOfClients w.chosen n' n'.waiting (each_waits (IsDecidedRight w.sent (views_after w.view more) (next_place n')) IsOfClients n'.waiting (λ batch is. is.of) waits) r.1.of in
+    let holds : next_place n' ≡ length w.chosen + 1 → view_for (views_after w.view more) (next_place n') ≡ Some (view_behind w.view w.chosen) =
+    next_holds w.view w.chosen more (next_place n') r.1.viewed of low front in
     let snapshots : List (List ℕ) = flat_map snapshot_in (step_of m h.node event).fired in
     let marked : List (List ℕ) = all_marked w.sent w.marked snapshots in
     let grows : (text : List ℕ) → IsTextMet w.sent w.marked text → IsTextMet w.sent marked text = met-more w.sent w.marked snapshots in
@@ -308,22 +330,24 @@ right-event {S = S} m service w i h event on up at may came told text fit r =
     (λ x there low. leaves_shown m w i h event on up at may came told service r hr text x there low))
     (record {
       right = each_set (HostRight w.sent m w.view more) w.hosts i h'
-          (each-weaken (HostRight w.sent m w.view w.chosen) (HostRight w.sent m w.view more) (host_longer w.sent m w.view w.chosen more front) w.hosts r.1.right) here;
+          (each-weaken (HostRight w.sent m w.view w.chosen) (HostRight w.sent m w.view more) (host_longer w.sent m w.view w.chosen more (tame m w i h event on up at may came told service r hr text) front) w.hosts r.1.right) here;
       ids = ids;
       viewed = r.1.viewed;
       period_fits = r.1.period_fits;
       certified = certified-step (stated w.sent) w.view w.chosen n' n'.waiting
-          (each_waits (IsDecidedRight w.sent w.view (next_place n')) (λ (batch : Batch). Certified group_secret (stated w.sent) w.view (next_place n') (digest_of batch)) n'.waiting (λ batch is. is.certified) waits)
+          (each_waits (IsDecidedRight w.sent (views_after w.view more) (next_place n'))
+          (λ (batch : Batch). next_place n' ≡ length w.chosen + 1 → Certified group_secret (stated w.sent) (view_behind w.view w.chosen) (next_place n') (digest_of batch)) n'.waiting
+          (λ batch is next. is.certified (view_behind w.view w.chosen) (holds next)) waits)
           r.1.certified;
-      few = few_now _ (r.1.few w.view (first_in_force w));
+      few = few_grown w _ on refl refl front (longer-step w.chosen n' n'.waiting)
+          (λ goes. (few-goes_on w.view more w.faulty w.ending (met-goes_on w.sent w.marked (ending_few w.view more w.faulty w.ending) snapshots goes)).0) r.1.few;
       shown = shown-set w.faulty (stated w.sent) w.hosts i h h' at (grows-firm h h' (from_to h.node.firm n'.firm n'.entries) l.named refl) r.1.shown;
       begins = r.1.begins;
-      low = low-step w.chosen n' n'.waiting
-          (each_waits (IsDecidedRight w.sent w.view (next_place n')) (λ (batch : Batch). next_place n' < 2 ^ 63) n'.waiting (λ batch is. is.low) waits) r.1.low;
-      of = each-step IsOfClients w.chosen n' n'.waiting (each_waits (IsDecidedRight w.sent w.view (next_place n')) IsOfClients n'.waiting (λ batch is. is.of) waits) r.1.of;
+      low = low;
+      of = of;
       short = r.1.short;
       marks = λ goes.
-          let each : Each (IsTextMet w.sent marked) snapshots = all-met w.sent w.marked w.ending snapshots goes in
+          let each : Each (IsTextMet w.sent marked) snapshots = all-met w.sent w.marked (ending_few w.view more w.faulty w.ending) snapshots goes in
           let was : HostMarks m w.view w.chosen w.sent marked h =
           marks_longer m w.view w.chosen w.chosen w.sent w.sent w.marked marked (front-same w.chosen) grows h (each_get (HostMarks m w.view w.chosen w.sent w.marked) w.hosts i h (r.1.marks on) at) in
           each_set (HostMarks m w.view more w.sent marked) w.hosts i h'
@@ -346,7 +370,7 @@ right-set {S = S} m w i h h' at f right marked fetches r = record {
   viewed = r.viewed;
   period_fits = r.period_fits;
   certified = r.certified;
-  few = few_now _ (r.few w.view (first_in_force w));
+  few = same_few w _ refl refl refl (λ on. on) r.few;
   shown = shown-set w.faulty (stated w.sent) w.hosts i h h' at f r.shown;
   begins = r.begins;
   low = r.low;
@@ -431,7 +455,7 @@ module _ {S : Type 0} (m : Meaning S) (service : IsRestorable m) (w : World S) (
   pub resumed_on : GoesOn w.sent m w.view w.chosen h.node.id (place_left stopped_host) h.life.diary (node_resumed (course_of m) w h)
   resumed_on =
       subst (λ (n : Node S). GoesOn w.sent m w.view w.chosen h.node.id (place_left stopped_host) h.life.diary n) (sym resumed_is)
-      (goes_on w.sent m w.view w.period w.chosen h.node.id (place_left stopped_host) (own_left (restores stopped_host.left).present) h.life.diary r.1.viewed left_host.diary resumed_behind none_left diary_met left_host.few.diary)
+      (goes_on w.sent m w.view w.period w.chosen h.node.id (place_left stopped_host) (own_left (restores stopped_host.left).present) h.life.diary (right_tame m w r.1) left_host.diary resumed_behind none_left diary_met left_host.few.diary)
 
   pub resumed-right : HostRight w.sent m w.view w.chosen (host_resumed h (node_resumed (course_of m) w h))
   resumed-right = host-resumes w.sent m w.view w.chosen h (node_resumed (course_of m) w h) left_host down resumed_on (diary-few m w i h at r)
@@ -461,7 +485,7 @@ right-meets m w texts r =
       viewed = r.viewed;
       period_fits = r.period_fits;
       certified = r.certified;
-      few = few_now _ (r.few w.view (first_in_force w));
+      few = same_few w _ refl refl refl (λ goes. met-goes_on w.sent w.marked w.ending texts goes) r.few;
       shown = r.shown;
       begins = r.begins;
       low = r.low;
@@ -475,9 +499,9 @@ right-meets m w texts r =
 -- clients
 
 -- a client that hears changes none of it
-right-hear : {S : Type 0} (m : Meaning S) (w : World S) (i : ℕ) (c : Client) (a : SignedBy Answer) (h : Heard) → WorldRight m w → WorldRight m (hearing w i c a h)
+right-hear : {S : Type 0} (m : Meaning S) (w : World S) (i : ℕ) (c : Client) (a : Word) (h : Heard) → WorldRight m w → WorldRight m (hearing w i c a h)
 unfolding hearing
-right-hear m w i c a h r = record { right = r.right; ids = r.ids; viewed = r.viewed; period_fits = r.period_fits; certified = r.certified; few = few_now _ (r.few w.view (first_in_force w)); shown = r.shown; begins = r.begins; low = r.low; of = r.of; short = r.short; marks = r.marks; fetched = r.fetched }
+right-hear m w i c a h r = record { right = r.right; ids = r.ids; viewed = r.viewed; period_fits = r.period_fits; certified = r.certified; few = same_few w _ refl refl refl (λ on. on) r.few; shown = r.shown; begins = r.begins; low = r.low; of = r.of; short = r.short; marks = r.marks; fetched = r.fetched }
 
 -- two facts that are kept, are kept together
 pub keeps-both : {S : Type 0} (course : Course S) (P Q : World S → Type 0) → Keeps course P → Keeps course Q → Keeps course (λ w. P w × Q w)
@@ -486,7 +510,7 @@ keeps-both course P Q k l =
       event = λ w i h event up at may is. (k.event w i h event up at may is.0, l.event w i h event up at may is.1);
       disk = λ w i h up at is. (k.disk w i h up at is.0, l.disk w i h up at is.1);
       crash = λ w i h left up at may is. (k.crash w i h left up at may is.0, l.crash w i h left up at may is.1);
-      hear = λ w i c x a at has read is. (k.hear w i c x a at has read is.0, l.hear w i c x a at has read is.1);
+      hear = λ w i c x a on at has read is. (k.hear w i c x a on at has read is.0, l.hear w i c x a on at has read is.1);
       ask = λ w i c op at free low brief is. (k.ask w i c op at free low brief is.0, l.ask w i c op at free low brief is.1);
       again = λ w i c q at waits is. (k.again w i c q at waits is.0, l.again w i c q at waits is.1);
       learn = λ w i j c d at other is. (k.learn w i j c d at other is.0, l.learn w i j c d at other is.1);
@@ -505,7 +529,7 @@ keeps-based m =
       meet = λ w texts on is. (k.meet w texts on is.0, l.meet w texts on is.1);
       disk = λ w i h up at is. (k.disk w i h up at is.0, l.disk w i h up at is.1);
       crash = λ w i h left up at may is. (k.crash w i h left up at may is.0, l.crash w i h left up at may is.1);
-      hear = λ w i c x a at has read is. (k.hear w i c x a at has read is.0, l.hear w i c x a at has read is.1);
+      hear = λ w i c x a on at has read is. (k.hear w i c x a on at has read is.0, l.hear w i c x a on at has read is.1);
       ask = λ w i c op at free low brief is. (k.ask w i c op at free low brief is.0, l.ask w i c op at free low brief is.1);
       again = λ w i c q at waits is. (k.again w i c q at waits is.0, l.again w i c q at waits is.1);
       learn = λ w i j c d at other is. (k.learn w i j c d at other is.0, l.learn w i j c d at other is.1);
@@ -543,6 +567,24 @@ based-resumes m brief service w i h down at r =
       (keeps-unforged (course_of m)).resume w i h down at r.0.1,
     )
 
+-- a host's node goes right behind its event
+pub event-right : {S : Type 0} (m : Meaning S) → IsRestorable m → (w : World S) (i : ℕ) (h : Host S) (event : NodeEvent) → IsUp w h → slice_get w.hosts i ≡ Some h → MayTake w h event → ChosenRight m w
+    → HostRight w.sent m w.view (chosen_with w.chosen (next_place (step_of m h.node event).node) (step_of m h.node event).node.waiting) (host_after (course_of m) h (step_of m h.node event))
+event-right m service w i h event up at may r =
+    host-stepped m w i h event may.on up.0 at (may_read w h event (grounded-reads w r.0.0) may.come) (may-have w h event may.come) (may-told w h event may.come) service r (host-right m w i h at r)
+    (taken-met m w i h event at may r)
+
+-- the views that a node knows behind its event are among those behind the list then
+pub event-knows : {S : Type 0} (m : Meaning S) → IsRestorable m → (w : World S) (i : ℕ) (h : Host S) (event : NodeEvent) → IsUp w h → slice_get w.hosts i ≡ Some h → MayTake w h event → ChosenRight m w
+    → (v : View) → Among v (step_of m h.node event).node.replica.views
+    → Among v (views_after w.view (chosen_with w.chosen (next_place (step_of m h.node event).node) (step_of m h.node event).node.waiting))
+event-knows {S = S} m service w i h event up at may r v there =
+    let n' : Node S = (step_of m h.node event).node in
+    let more : List Batch = chosen_with w.chosen (next_place n') n'.waiting in
+    let here : HostRight w.sent m w.view more (host_after (course_of m) h (step_of m h.node event)) = event-right m service w i h event up at may r in
+    let known : n'.replica.views ≡ views_after w.view (take n'.replica.place more) = node_views m w.view more n' (record { reached = here.wrote.at.reached; replica = here.wrote.at.replica }) in
+    front_there w.view n'.replica.place more v (subst (λ (vs : List View). Among v vs) known there)
+
 -- each event keeps the list right, but that a node goes on
 chosen-keeps : {S : Type 0} (m : Meaning S) → IsBrief m → IsRestorable m → Keeps (course_of m) (ChosenRight m)
 chosen-keeps m brief service =
@@ -555,16 +597,16 @@ chosen-keeps m brief service =
       );
       disk = λ w i h up at r. (k.disk w i h up at r.0, right-called m service w i h up.0 at r);
       crash = λ w i h left up at may r. (k.crash w i h left up at may r.0, right-crashed m w i h left up.0 at may r);
-      hear = λ w i c x a at has read r. (k.hear w i c x a at has read r.0, right-hear m w i c a (heard w.view c a) r.1);
+      hear = λ w i c x a on at has read r. (k.hear w i c x a on at has read r.0, right-hear m w i c a (heard_word c a) r.1);
       ask = λ w i c op at free few short r. (
         k.ask w i c op at free few short r.0,
-        right-posts m (asked_by w i c op) (from_client w.view c (ask_of c op)) (ask_shows w (signed requests group_secret c.id (request_of c op)))
-            (record { right = r.1.right; ids = r.1.ids; viewed = r.1.viewed; period_fits = r.1.period_fits; certified = r.1.certified; few = few_now _ (r.1.few w.view (first_in_force w)); shown = r.1.shown; begins = r.1.begins; low = r.1.low; of = r.1.of; short = r.1.short; marks = r.1.marks; fetched = r.1.fetched }),
+        right-posts m (asked_by w i c op) (from_client c (ask_of c op)) (ask_shows w (signed requests group_secret c.id (request_of c op)))
+            (record { right = r.1.right; ids = r.1.ids; viewed = r.1.viewed; period_fits = r.1.period_fits; certified = r.1.certified; few = same_few w _ refl refl refl (λ on. on) r.1.few; shown = r.1.shown; begins = r.1.begins; low = r.1.low; of = r.1.of; short = r.1.short; marks = r.1.marks; fetched = r.1.fetched }),
       );
-      again = λ w i c q at waits r. (k.again w i c q at waits r.0, right-posts m w (from_client w.view c (signed_by c q)) (ask_shows w (signed requests group_secret c.id q)) r.1);
+      again = λ w i c q at waits r. (k.again w i c q at waits r.0, right-posts m w (from_client c (signed_by c q)) (ask_shows w (signed requests group_secret c.id q)) r.1);
       learn = λ w i j c d at other r. (
         k.learn w i j c d at other r.0,
-        record { right = r.1.right; ids = r.1.ids; viewed = r.1.viewed; period_fits = r.1.period_fits; certified = r.1.certified; few = few_now _ (r.1.few w.view (first_in_force w)); shown = r.1.shown; begins = r.1.begins; low = r.1.low; of = r.1.of; short = r.1.short; marks = r.1.marks; fetched = r.1.fetched },
+        record { right = r.1.right; ids = r.1.ids; viewed = r.1.viewed; period_fits = r.1.period_fits; certified = r.1.certified; few = same_few w _ refl refl refl (λ on. on) r.1.few; shown = r.1.shown; begins = r.1.begins; low = r.1.low; of = r.1.of; short = r.1.short; marks = r.1.marks; fetched = r.1.fetched },
       );
       inject = λ w x read fine r. (k.inject w x read fine r.0, right-posts m w (from_script x) (inject_shows w x fine r.0.0.fit.sent read) r.1);
       declare = λ w faulty rogue ending how r. (
@@ -575,7 +617,7 @@ chosen-keeps m brief service =
           viewed = r.1.viewed;
           period_fits = r.1.period_fits;
           certified = r.1.certified;
-          few = few_now _ (how.few (r.1.few w.view (first_in_force w)));
+          few = fewer w _ refl refl how.few how.over r.1.few;
           shown = shown-faulty w.faulty faulty (stated w.sent) w.hosts how.more_faulty r.1.shown;
           begins = r.1.begins;
           low = r.1.low;
@@ -585,7 +627,7 @@ chosen-keeps m brief service =
           fetched = λ on. r.1.fetched (how.over on);
         },
       );
-      same = λ w mark told r. (k.same w mark told r.0, record { right = r.1.right; ids = r.1.ids; viewed = r.1.viewed; period_fits = r.1.period_fits; certified = r.1.certified; few = few_now _ (r.1.few w.view (first_in_force w)); shown = r.1.shown; begins = r.1.begins; low = r.1.low; of = r.1.of; short = r.1.short; marks = r.1.marks; fetched = r.1.fetched });
+      same = λ w mark told r. (k.same w mark told r.0, record { right = r.1.right; ids = r.1.ids; viewed = r.1.viewed; period_fits = r.1.period_fits; certified = r.1.certified; few = same_few w _ refl refl refl (λ on. on) r.1.few; shown = r.1.shown; begins = r.1.begins; low = r.1.low; of = r.1.of; short = r.1.short; marks = r.1.marks; fetched = r.1.fetched });
       meet = λ w texts on r. (k.meet w texts on r.0, right-meets m w texts r.1);
     }
 
@@ -601,7 +643,8 @@ hosts_right m view period (id ∷ ids) viewed = (opened_right m view period id v
         let n : Node S = opened (outset_of m view period id) in
         let sound : IsSound [] view n = sound_opened m group_secret id view period viewed in
         let at : IsAt m view [] n = record { reached = omega arith; replica = refl } in
-        let whole : BookRight [] view [] n.entries = record { sound = book_list m group_secret [] view [] n n.entries at (book_sound [] view n sound refl); within = omega arith } in
+        let all : IsTame view [] = record { viewed = viewed; alone = tt; low = omega arith } in
+        let whole : BookRight [] view [] n.entries = record { sound = book_list m group_secret [] view [] n n.entries all at sound.within (book_sound [] view n sound refl); within = omega arith } in
         let none : BookRight [] view [] [] = none_right [] view [] n.entries whole in
         record {
           sound = sound;
@@ -619,6 +662,8 @@ hosts_right m view period (id ∷ ids) viewed = (opened_right m view period id v
             met = (tt, tt);
             past = omega arith;
             at = at;
+            knows = book_sound [] view n sound refl;
+            bounded = sound.within;
           };
           count = refl;
           places = tt;
@@ -650,9 +695,9 @@ host_sent_all {S = S} sent (s ∷ more) m view chosen h r =
     subst (λ (xs : List Sent). HostRight xs m view chosen h) (append_assoc sent (s ∷ []) more) (host_sent_all (sent ++ s ∷ []) more m view chosen h (host_sent sent s m view chosen h r))
 
 -- the host of a new node is right, whatever was sent and decided
-new-right : {S : Type 0} (m : Meaning S) (w : World S) (member : ℕ) → is_view w.view ≡ true → HostRight w.sent m w.view w.chosen (new_host m w member)
-new-right m w member viewed =
-    host_longer w.sent m w.view [] w.chosen refl (new_host m w member) (host_sent_all [] w.sent m w.view [] (new_host m w member) (hosts_right m w.view w.period (member ∷ []) viewed).0)
+new-right : {S : Type 0} (m : Meaning S) (w : World S) (member : ℕ) → IsTame w.view w.chosen → HostRight w.sent m w.view w.chosen (new_host m w member)
+new-right m w member all =
+    host_longer w.sent m w.view [] w.chosen all refl (new_host m w member) (host_sent_all [] w.sent m w.view [] (new_host m w member) (hosts_right m w.view w.period (member ∷ []) all.viewed).0)
 
 -- a new node is added
 right-added : {S : Type 0} (m : Meaning S) (w : World S) (i member : ℕ) → IsNew w member → WorldRight m w → WorldRight m (added (course_of m) w i member)
@@ -660,12 +705,12 @@ right-added {S = S} m w i member new r =
     let h : Host S = new_host m w member in
     let none : list_any (λ k. k == member) (names w.hosts) ≡ false = none_named w.hosts member (ap (λ (found : Option ℕ). is_some found) new.none) in
     record {
-      right = each_insert (HostRight w.sent m w.view w.chosen) w.hosts i h r.right (new-right m w member r.viewed);
+      right = each_insert (HostRight w.sent m w.view w.chosen) w.hosts i h r.right (new-right m w member (right_tame m w r));
       ids = subst (AreNames w.view) (sym (map_insert (λ (g : Host S). g.node.id) w.hosts i h)) (names_insert w.view (names w.hosts) i member r.ids none);
       viewed = r.viewed;
       period_fits = r.period_fits;
       certified = r.certified;
-      few = few_now _ (r.few w.view (first_in_force w));
+      few = same_few w _ refl refl refl (λ on. on) r.few;
       shown = shown-added w.faulty (stated w.sent) w.hosts i h none r.shown;
       begins = r.begins;
       low = r.low;
@@ -696,7 +741,7 @@ pub chosen-witnessed : {S : Type 0} (m : Meaning S) (w : World S) → ChosenRigh
 chosen-witnessed {S = S} m w r =
     record {
       diaries = each-weaken (HostRight w.sent m w.view w.chosen) (λ (h : Host S). HasDiary h) (λ h right. has_diary right.all right.past h right.lasts) w.hosts r.1.right;
-      witnessed = right-witnessed m w r.1 w.view (first_in_force w);
+      witnessed = right-witnessed m w r.1;
       chosen = r.1.certified;
     }
 
@@ -720,7 +765,7 @@ chosen-begun m g is = (
     viewed = is.viewed;
     period_fits = is.period_fits;
     certified = tt;
-    few = few_now _ (none_faulty g.view);
+    few = record { each = λ v force. none_faulty v; calm = λ on. none_many [] (views_after g.view []) (λ v there. none_faulty v) };
     shown = λ x never. absurd never;
     begins = is.begins;
     low = omega arith;

@@ -1,6 +1,7 @@
 -- A host stays right where its store makes a call, where its member crashes, and where its node goes on.
-use Rattle.world_laws.proofs.OneViews.{book_at, book_list}
-use Rattle.std.proofs.Common.{◌≡◌, ℕ, zero, suc, ◌-◌, ◌^◌, ◌<◌, ◌≤◌, ◌++◌, ◌∙◌, true, false, List, [], ◌∷◌, length, take, drop, Option, Some, None, IfSome, refl, ap, sym, subst, arith, append-nil, length-append, inl, inr, ◌⊎◌}
+use Rattle.node_laws.specs.Restored.{IsSoundBook}
+use Rattle.world_laws.proofs.ListViews.{IsTame, book_list, book_own, node_views}
+use Rattle.std.proofs.Common.{◌≡◌, ℕ, zero, suc, ◌+◌, ◌-◌, ◌^◌, ◌<◌, ◌≤◌, ◌++◌, ◌∙◌, true, false, List, [], ◌∷◌, length, take, drop, Option, Some, None, IfSome, refl, ap, sym, subst, arith, append-nil, length-append, inl, inr, ◌⊎◌}
 use Rattle.std.specs.Prelude.{option_map}
 use Rattle.std.proofs.Math.Seq.{drop-append_seam}
 use Rattle.smart_base.specs.Lists.{Each}
@@ -23,10 +24,10 @@ use Rattle.world_rules.specs.Crashes.{bytes_held, is_unclosed, still_aside}
 use Rattle.world_rules.specs.Fronts.{stated_place, checkpoint_place}
 use Rattle.replica_rules.specs.Replicas.{state, views_after}
 use Rattle.snapshot_form.specs.Replicas.{IsOfClients, is_first_view}
-use Rattle.node_rules.specs.Nodes.{Node}
+use Rattle.node_rules.specs.Nodes.{Node, next_place}
 use Rattle.node_rules.specs.Reopening.{entries_in, reopened, replica_from, or_empty, outset_from, reopened_from, checkpoint_of}
 use Rattle.node_rules.specs.Steps.{Outset, outset}
-use Rattle.node_laws.specs.Sound.{IsSound, IsBegun}
+use Rattle.node_laws.specs.Sound.{IsSound, IsBegun, IsWithin}
 use Rattle.node_laws.specs.Restoring.{outset_behind, resumed_node}
 use Rattle.node_laws.proofs.CutNodes.{sound_reopened}
 use Rattle.node_laws.proofs.Restored.{book_sound}
@@ -89,7 +90,7 @@ module _ {S : Type 0} (sent : List Sent) (m : Meaning S) (restorable : IsRestora
             (gives_tail r.all r.past h is.low run book.sound.lawful book.sound.tidy (tail_ahead r.all r.past h run (all_states r.all r.snapshots))) is;
         snapshots = r.snapshots;
         whole = r.whole;
-        wrote = record { is = r.wrote.is; cut = r.wrote.cut; made = r.wrote.made; right = r.wrote.right; met = r.wrote.met; past = r.wrote.past; at = r.wrote.at };
+        wrote = record { is = r.wrote.is; cut = r.wrote.cut; made = r.wrote.made; right = r.wrote.right; met = r.wrote.met; past = r.wrote.past; at = r.wrote.at; knows = r.wrote.knows; bounded = r.wrote.bounded };
         count = r.count;
         places = r.places;
         agrees = r.agrees;
@@ -125,7 +126,7 @@ host-crashes sent m view chosen h left up may r =
       lasts = lasts-crashed m r.all r.past h left c r.lasts;
       snapshots = r.snapshots;
       whole = r.whole;
-      wrote = record { is = λ up. absurd (apart up); cut = r.wrote.cut; made = r.wrote.made; right = r.wrote.right; met = r.wrote.met; past = r.wrote.past; at = r.wrote.at };
+      wrote = record { is = λ up. absurd (apart up); cut = r.wrote.cut; made = r.wrote.made; right = r.wrote.right; met = r.wrote.met; past = r.wrote.past; at = r.wrote.at; knows = r.wrote.knows; bounded = r.wrote.bounded };
       count = r.count;
       places = r.places;
       agrees = r.agrees;
@@ -149,7 +150,10 @@ pub record GoesOn {S : Type 0} (sent : List Sent) (m : Meaning S) (view : View) 
   pub at : IsAt m view chosen n
   pub past : place ≤ n.replica.place
   pub right : BookRight sent view chosen (d ++ resumed.more)
+  pub knows : IsSoundBook group_secret (stated sent) n.replica.views (d ++ resumed.more)
+  pub bounded : Each (IsWithin n.replica.views (next_place n) (d ++ resumed.more)) (d ++ resumed.more)
   pub short : length resumed.more ≤ 1
+  pub reached : last_made d ≤ n.replica.place
   pub met : Each (EntryMet (IsMet sent)) (d ++ resumed.more)
   pub sourced : FromSources (sources sent) n
   pub begun : 0 < length n.entries
@@ -162,12 +166,12 @@ no_install : (place : ℕ) → InstallUpTo place []
 no_install place i there = absurd there
 
 -- nothing was written: it opens a new book
-first_goes_on : {S : Type 0} (sent : List Sent) (m : Meaning S) (view : View) (period : ℕ) (chosen : List Batch) (id : ℕ) → is_view view ≡ true → BookRight sent view chosen [] → FromBook (sources sent) []
+first_goes_on : {S : Type 0} (sent : List Sent) (m : Meaning S) (view : View) (period : ℕ) (chosen : List Batch) (id : ℕ) → IsTame view chosen → BookRight sent view chosen [] → FromBook (sources sent) []
     → GoesOn sent m view chosen id 0 [] (node_behind m group_secret id view period 0 chosen None [])
 unfolding reopened
-first_goes_on {S = S} sent m view period chosen id viewed b from =
+first_goes_on {S = S} sent m view period chosen id tame b from =
     let n : Node S = reopened m (outset m group_secret id view period) [] in
-    let sound : IsSound (stated sent) view n = sound_reopened m group_secret id (stated sent) view period [] viewed (book_at group_secret (stated sent) view chosen [] [] b.sound) (no_install 0) in
+    let sound : IsSound (stated sent) view n = sound_reopened m group_secret id (stated sent) view period [] tame.viewed (book_own group_secret (stated sent) view chosen [] tame b.within b.sound).sound (no_install 0) in
     let here : IsAt m view chosen n = record { reached = omega arith; replica = refl } in
     let f = from-opened (sources sent) m group_secret id view period in
     let sourced : FromSources (sources sent) n =
@@ -179,8 +183,11 @@ first_goes_on {S = S} sent m view period chosen id viewed b from =
       sound = sound;
       at = record { reached = omega arith; replica = refl };
       past = omega arith;
-      right = record { sound = book_list m group_secret (stated sent) view chosen n n.entries here (book_sound (stated sent) view n sound refl); within = omega arith };
+      right = record { sound = book_list m group_secret (stated sent) view chosen n n.entries tame here sound.within (book_sound (stated sent) view n sound refl); within = omega arith };
+      knows = book_sound (stated sent) view n sound refl;
+      bounded = sound.within;
       short = omega arith;
+      reached = omega arith;
       met = (tt, tt);
       sourced = sourced;
       begun = omega arith;
@@ -191,9 +198,9 @@ first_goes_on {S = S} sent m view period chosen id viewed b from =
     }
 
 later_goes_on : {S : Type 0} (sent : List Sent) (m : Meaning S) (view : View) (period : ℕ) (chosen : List Batch) (id place : ℕ) (checkpoint : Option OwnSnapshot) (e : LogEntry) (es : List LogEntry)
-    → is_view view ≡ true → BookRight sent view chosen (e ∷ es) → GoesBehind group_secret (stated sent) view place chosen (e ∷ es) → Each (EntryMet (IsMet sent)) (e ∷ es) → FromBook (sources sent) (e ∷ es)
+    → IsTame view chosen → BookRight sent view chosen (e ∷ es) → GoesBehind group_secret (stated sent) view place chosen (e ∷ es) → Each (EntryMet (IsMet sent)) (e ∷ es) → FromBook (sources sent) (e ∷ es)
     → GoesOn sent m view chosen id place (e ∷ es) (node_behind m group_secret id view period place chosen checkpoint (e ∷ es))
-later_goes_on {S = S} sent m view period chosen id place checkpoint e es viewed b goes met from =
+later_goes_on {S = S} sent m view period chosen id place checkpoint e es tame b goes met from =
     let d : List LogEntry = e ∷ es in
     let x : Node S = resumed_node m group_secret id view period place chosen checkpoint (e ∷ es) in
     let same = cut_reopened m group_secret id (stated sent) view (views_after view chosen) period place chosen checkpoint e es goes.sound goes.made goes.upto goes.along in
@@ -201,16 +208,23 @@ later_goes_on {S = S} sent m view period chosen id place checkpoint e es viewed 
     let reached = goes.along.reached in
     let place_is : x.replica.place ≡ last_made (e ∷ es) = state_place m view (take (last_made (e ∷ es)) chosen) ∙ length-take-le (last_made (e ∷ es)) chosen goes.along.reached in
     let low = made_low place (e ∷ es) goes.made in
+    let own = book_own group_secret (stated sent) view chosen (e ∷ es) tame goes.along.reached goes.sound in
+    let here : IsAt m view chosen x = record { reached = omega (arith, place_is, reached); replica = ap (λ (k : ℕ). state m view (take k chosen)) (sym place_is) } in
+    let views : x.replica.views ≡ views_after view (take (last_made (e ∷ es)) chosen) = node_views m view chosen x here ∙ ap (λ (k : ℕ). views_after view (take k chosen)) place_is in
     subst (λ (n : Node S). GoesOn sent m view chosen id place (e ∷ es) n) (sym same) (record {
       resumed = record { more = []; opening_is = refl; book = sym (append-nil (cut_at place (e ∷ es))); restored_is = refl; firm_is = refl; none = refl };
       name = refl;
       shared = refl;
-      sound = subst (λ (n : Node S). IsSound (stated sent) view n) same (sound_behind m group_secret id (stated sent) view period place chosen checkpoint e es viewed
-          (book_at group_secret (stated sent) view chosen (take (last_made (e ∷ es)) chosen) (e ∷ es) goes.sound) goes.made goes.upto goes.along);
+      sound = subst (λ (n : Node S). IsSound (stated sent) view n) same (sound_behind m group_secret id (stated sent) view period place chosen checkpoint e es own.are own.sound goes.made goes.upto goes.along);
       at = record { reached = omega (arith, place_is, reached); replica = ap (λ (k : ℕ). state m view (take k chosen)) (sym place_is) };
       past = omega (arith, place_is, low);
       right = subst (λ (xs : List LogEntry). BookRight sent view chosen xs) (sym all) b;
+      knows = subst (λ (xs : List LogEntry). IsSoundBook group_secret (stated sent) x.replica.views xs) (sym all)
+          (subst (λ (vs : List View). IsSoundBook group_secret (stated sent) vs d) (sym views) own.sound);
+      bounded = subst (λ (xs : List LogEntry). Each (IsWithin x.replica.views (next_place x) xs) xs) (sym all)
+          (subst (λ (k : ℕ). Each (IsWithin x.replica.views (k + 1) d) d) (sym place_is) (subst (λ (vs : List View). Each (IsWithin vs (last_made d + 1) d) d) (sym views) own.within));
       short = omega arith;
+      reached = omega (arith, place_is);
       met = subst (λ (xs : List LogEntry). Each (EntryMet (IsMet sent)) xs) (sym all) met;
       sourced = from-behind (sources sent) group_secret (stated sent) (views_after view chosen) m view id period place chosen checkpoint (e ∷ es) goes.sound goes.along.reached from;
       begun = some_entries (cut_at place (e ∷ es)) (cut_of_begun place (e ∷ es) (begun_book e es b.sound.begun));
@@ -229,13 +243,13 @@ later_goes_on {S = S} sent m view period chosen id place checkpoint e es viewed 
     begun_book x xs (inl none) = absurd (cc)
     begun_book x xs (inr is) = is
 
-pub goes_on : {S : Type 0} (sent : List Sent) (m : Meaning S) (view : View) (period : ℕ) (chosen : List Batch) (id place : ℕ) (checkpoint : Option OwnSnapshot) (d : List LogEntry) → is_view view ≡ true
+pub goes_on : {S : Type 0} (sent : List Sent) (m : Meaning S) (view : View) (period : ℕ) (chosen : List Batch) (id place : ℕ) (checkpoint : Option OwnSnapshot) (d : List LogEntry) → IsTame view chosen
     → BookRight sent view chosen d → GoesBehind group_secret (stated sent) view place chosen d → (place ≡ 0 → checkpoint ≡ None) → Each (EntryMet (IsMet sent)) d → FromBook (sources sent) d
     → GoesOn sent m view chosen id place d (node_behind m group_secret id view period place chosen checkpoint d)
-goes_on {S = S} sent m view period chosen id zero checkpoint [] viewed b goes none met from =
-    subst (λ (o : Option OwnSnapshot). GoesOn sent m view chosen id zero [] (node_behind m group_secret id view period zero chosen o [])) (sym (none refl)) (first_goes_on sent m view period chosen id viewed b from)
-goes_on sent m view period chosen id (suc k) checkpoint [] viewed b goes none met from = absurd (none_made k goes.made)
-goes_on sent m view period chosen id place checkpoint (e ∷ es) viewed b goes none met from = later_goes_on sent m view period chosen id place checkpoint e es viewed b goes met from
+goes_on {S = S} sent m view period chosen id zero checkpoint [] tame b goes none met from =
+    subst (λ (o : Option OwnSnapshot). GoesOn sent m view chosen id zero [] (node_behind m group_secret id view period zero chosen o [])) (sym (none refl)) (first_goes_on sent m view period chosen id tame b from)
+goes_on sent m view period chosen id (suc k) checkpoint [] tame b goes none met from = absurd (none_made k goes.made)
+goes_on sent m view period chosen id place checkpoint (e ∷ es) tame b goes none met from = later_goes_on sent m view period chosen id place checkpoint e es tame b goes met from
 
 -- the own snapshot of a checkpoint
 abbrev pub own_left : Option Checkpoint → Option OwnSnapshot
@@ -298,6 +312,8 @@ host-resumes {S = S} sent m view chosen h n r down g few =
         cut = g.resumed.book ∙ (sym (cut_more (place_left s) d more made) ∙ ap (λ (k : ℕ). cut_at k (d ++ more)) (sym g.resumed.opening_is));
         made = subst (λ (k : ℕ). 0 < k → HasMade (d ++ more) k) (sym g.resumed.opening_is) (λ some. more_made (place_left s) d more (made some));
         right = g.right;
+        knows = g.knows;
+        bounded = g.bounded;
         met = g.met;
         past = (let begins = g.resumed.opening_is in let past = g.past in omega (arith, begins, past));
         at = g.at;

@@ -1,7 +1,8 @@
 -- A host stays right where its node takes an event. What the step writes goes on behind all that was written before.
-use Rattle.world_laws.proofs.InForce.{first_in_force}
-use Rattle.smart_base.specs.Views.{View}
-use Rattle.std.proofs.Common.{◌≡◌, ℕ, ◌+◌, ◌<◌, ◌≤◌, ◌++◌, ◌∙◌, true, List, [], ◌∷◌, length, take, drop, refl, ap, sym, subst, arith, length-append, Bool, None, append-nil, cond, false, inl, inr, is_some, nat_lt, ◌^◌, ◌⊎◌, Option}
+use Rattle.vote_book.specs.Tidy.{promise_of}
+use Rattle.node_laws.proofs.Delivering.{waits_alone}
+use Rattle.node_laws.proofs.Books.{all_within_more, greatest_append, promise_most, promised_greatest}
+use Rattle.std.proofs.Common.{◌≡◌, ℕ, ◌+◌, ◌<◌, ◌≤◌, ◌++◌, ◌∙◌, true, List, [], ◌∷◌, length, take, drop, refl, ap, sym, subst, arith, length-append, Bool, None, append-nil, cond, false, inl, inr, is_some, nat_lt, ◌^◌, ◌⊎◌, Option, zero, suc}
 use Rattle.std.specs.List.{flat_map}
 use Rattle.std.specs.Prelude.{slice_get, Some, IfSome}
 use Rattle.std.proofs.lemmas.List.{length-take-le}
@@ -15,15 +16,15 @@ use Rattle.vote_book.specs.declared.entry.LogEntry.{LogEntry}
 use Rattle.book_laws.specs.BookCuts.{cut_at, has_cut, kept_of, before_place, from_place}
 use Rattle.book_laws.proofs.CutAgain.{cut_more, more_made}
 use Rattle.replica_rules.specs.Replicas.{state, views_after}
-use Rattle.node_rules.specs.Nodes.{Node, next_place}
+use Rattle.node_rules.specs.Nodes.{Node, next_place, greatest_regency}
 use Rattle.node_rules.specs.Deliveries.{delivery_in}
 use Rattle.node_rules.specs.Steps.{Outcome, step_of, takes_in, made_firm}
-use Rattle.node_laws.specs.Sound.{IsSound, HasDecided}
+use Rattle.node_laws.specs.Sound.{IsSound, HasDecided, IsWithin}
 use Rattle.node_laws.specs.Restored.{IsSoundBook}
 use Rattle.node_laws.proofs.Passes.{sound_step, sound_released, sound_takes_in}
 use Rattle.node_laws.proofs.Restored.{front_of}
-use Rattle.world_laws.proofs.OneViews.{book_at, node_views}
-use Rattle.world_laws.proofs.Views.{views-step}
+use Rattle.world_laws.proofs.ListViews.{IsTame, book_list}
+use Rattle.world_laws.proofs.Views.{Grows, book-grows, grows-step}
 use Rattle.node_laws.proofs.CutNodes.{sound_written}
 use Rattle.replica_laws.proofs.Follows.{Waits, waits-takes_in, WasDue, due-step}
 use Rattle.replica_laws.proofs.Counted.{counted-step}
@@ -53,7 +54,7 @@ use Rattle.replica_laws.proofs.Segments.{segment_all}
 use Rattle.world_laws.proofs.Lives.{Goes, lasts-after, written_then, Running, fits_now}
 use Rattle.world_laws.proofs.Few.{begun-step, few-after, few-book, few-step, sources}
 use Rattle.world_laws.proofs.Witnessing.{stated_event, running_shown}
-use Rattle.world_laws.proofs.Chosen.{BookRight, HostRight, ChosenRight, are_restorable, book-along, book_longer, front_right, chosen-front, chosen_longer, right-marks, right-witnessed, within-step, due-agrees}
+use Rattle.world_laws.proofs.Chosen.{BookRight, HostRight, ChosenRight, are_restorable, book-along, book_longer, front_right, chosen-front, chosen_longer, right-marks, within-step, due-agrees, each-step, known-witnessed, low-step, right_tame}
 use Rattle.agreement_laws.proofs.Lists.{each_append, among_right}
 use Rattle.world_laws.proofs.Additions.{Adds, IsNewOf, IsOverOf, IsOwnOf, adds-step}
 use Rattle.smart_statements.specs.declared.entry.NodeEvent.TheVariants.{Arrive, Deliver, Firm, Tick}
@@ -67,7 +68,7 @@ use Rattle.replica_laws.proofs.MarkPlaces.{IsMarkUpTo, up_to_more}
 use Rattle.agreement_laws.specs.Diaries.{IsShown}
 use Rattle.smart_base.specs.declared.party.Party.TheVariants.{Member}
 use Rattle.book_laws.proofs.CutEntries.{cut_among}
-use Rattle.replica_rules.specs.Seals.{digest_of}
+use Rattle.replica_rules.specs.Seals.{digest_of, is_alone}
 use Rattle.world_laws.proofs.CutSources.{from-written, newest_behind}
 use Rattle.world_laws.proofs.Fronts.{front-length, front-take}
 use Rattle.node_rules.specs.Marks.{last_taken}
@@ -220,46 +221,6 @@ module _ {S : Type 0} (m : Meaning S) (w : World S) (i : ℕ) (h : Host S) (even
   some_whole : hr.whole ≡ [] → ⊥
   some_whole = some_cut later_node.opening hr.whole begun
 
-  -- its views are those behind the list
-  later_views : later_node.replica.views ≡ views_after w.view w.chosen
-  later_views = views-step m h.node event ∙ node_views m w.view w.chosen h.node hr.wrote.at
-
-  listed_book : (es : List LogEntry) → IsSoundBook group_secret (stated w.sent) (views_after w.view w.chosen) es → IsSoundBook later_node.secret (stated w.sent) later_node.replica.views es
-  listed_book es book =
-      subst (λ (k : List ℕ). IsSoundBook k (stated w.sent) later_node.replica.views es) (sym shared) (subst (λ (vs : List View). IsSoundBook group_secret (stated w.sent) vs es) (sym later_views) book)
-
-  -- all of it is sound together
-  pub whole_sound : IsSoundBook group_secret (stated w.sent) (views_after w.view w.chosen) whole
-  whole_sound =
-      subst (λ (vs : List View). IsSoundBook group_secret (stated w.sent) vs whole) later_views
-      (subst (λ (k : List ℕ). IsSoundBook k (stated w.sent) later_node.replica.views whole) shared
-      (sound_written (stated w.sent) w.view later_node hr.whole rest sound (listed_book hr.whole hr.wrote.right.sound) entries made some_whole))
-
-  whole_cut : later_node.entries ≡ cut_at later_node.opening whole
-  whole_cut = entries ∙ sym (cut_more later_node.opening hr.whole rest made)
-
-  whole_made : 0 < later_node.opening → HasMade whole later_node.opening
-  whole_made low = more_made later_node.opening hr.whole rest (made low)
-
-  whole_met : Each (EntryMet (IsMet w.sent)) whole
-  whole_met =
-      each_append (EntryMet (IsMet w.sent)) hr.whole rest hr.wrote.met
-      (each_rest (EntryMet (IsMet w.sent)) (cut_at later_node.opening hr.whole) rest
-      (subst (λ (es : List LogEntry). Each (EntryMet (IsMet w.sent)) es) entries (step-met m w i h event at may r.0.0).entries))
-
-  -- it has few entries
-  sourced : FromSources (sources w.sent) later_node
-  sourced = few-step m w.sent hr.whole h event came hr.few
-
-  whole_from : FromBook (sources w.sent) whole
-  whole_from =
-      from-written (sources w.sent) later_node.opening h.node.replica.place hr.whole rest
-      (newest_behind group_secret (stated w.sent) (views_after w.view w.chosen) hr.whole rest whole_sound) (some_long hr.whole some_whole) begun hr.few.written_from
-      (subst (λ (es : List LogEntry). FromBook (sources w.sent) es) entries sourced.book) hr.few.marks adds.later
-
-  pub whole_few : length whole < 2 ^ 28
-  whole_few = few-book group_secret (stated w.sent) (views_after w.view w.chosen) w.sent whole whole_sound whole_from r.1.short
-
   -- the node that has taken the event in is at the same place, with the same book
   same_waits : Waits h.node taken
   same_waits = waits-takes_in h.node event
@@ -288,29 +249,105 @@ module _ {S : Type 0} (m : Meaning S) (w : World S) (i : ℕ) (h : Host S) (even
   -- so is its replica behind the step
   pub stands : IsStateAt m w.view w.chosen later_node.replica
   stands =
-      moved-at m group_secret (stated w.sent) w.view w.chosen w.sent w.marked (is_among w.faulty) (diary w) (right-witnessed m w r.1 w.view (first_in_force w)) (right-marks m w r.1 on) r.0.0.texts (are_restorable m w service r.1) hr.whole taken taken_sound same_secret
+      moved-at m group_secret (stated w.sent) w.view w.chosen w.sent w.marked (is_among w.faulty) (diary w) (known-witnessed m w r.1 on) (right-marks m w r.1 on) r.0.0.texts (are_restorable m w service r.1) hr.whole taken taken_sound same_secret
       (same_book ∙ (hr.wrote.cut ∙ ap (λ (k : ℕ). cut_at k hr.whole) (sym same_opening))) along taken_at text later_node.replica (moved-step m h.node event)
+
+  place_grows : h.node.replica.place ≤ later_node.replica.place
+  place_grows = let most = moves_place m taken later_node.replica (moved-step m h.node event) in let same = ap (λ (x : Replica S). x.place) same_waits.replica_is in omega (arith, most, same)
+
+  at_list : IsAt m w.view w.chosen later_node
+  at_list = record { reached = stands.reached; replica = stands.replica }
+
+  front : take (length w.chosen) more ≡ w.chosen
+  front = chosen-front w.chosen (next_place later_node) later_node.waiting
+
+  longer_at : IsAt m w.view more later_node
+  longer_at = at_longer m w.view w.chosen more later_node front at_list
+
+  -- ---- its views
+
+  -- those that it knew, and later ones
+  grows : Grows h.node later_node
+  grows = grows-step m (stated w.sent) w.view h.node event taken_sound
+
+  -- so what was written before stays sound by them
+  knows : IsSoundBook group_secret (stated w.sent) later_node.replica.views hr.whole × Each (IsWithin later_node.replica.views (next_place h.node) hr.whole) hr.whole
+  knows = book-grows group_secret (stated w.sent) (stated w.sent) (stated w.sent) w.view h.node later_node hr.whole hr.sound sound grows hr.wrote.bounded hr.wrote.knows
+
+  -- all of it is sound together
+  whole_knows : IsSoundBook group_secret (stated w.sent) later_node.replica.views whole
+  whole_knows =
+      subst (λ (k : List ℕ). IsSoundBook k (stated w.sent) later_node.replica.views whole) shared
+      (sound_written (stated w.sent) w.view later_node hr.whole rest sound (subst (λ (k : List ℕ). IsSoundBook k (stated w.sent) later_node.replica.views hr.whole) (sym shared) knows.0) entries made some_whole)
+
+  -- a cut promises no more than the whole
+  cut_most : (k : ℕ) → greatest_regency k (cut_at later_node.opening hr.whole) ≤ greatest_regency k hr.whole
+  cut_most k = most (greatest_regency k (cut_at later_node.opening hr.whole)) refl
+    where
+      most : (g : ℕ) → greatest_regency k (cut_at later_node.opening hr.whole) ≡ g → g ≤ greatest_regency k hr.whole
+      most zero is = omega arith
+      most (suc g) is =
+          let there : Among (promise_of k (greatest_regency k (cut_at later_node.opening hr.whole))) (cut_at later_node.opening hr.whole) = promised_greatest k (cut_at later_node.opening hr.whole) (omega (arith, is)) in
+          let least = promise_most k hr.whole (record { view = k; regency = greatest_regency k (cut_at later_node.opening hr.whole) }) refl (cut_among later_node.opening hr.whole (promise_of k (greatest_regency k (cut_at later_node.opening hr.whole))) there) in
+          omega (arith, is, least)
+
+  -- and it names no place past the node's next one
+  whole_bounded : Each (IsWithin later_node.replica.views (next_place later_node) whole) whole
+  whole_bounded =
+      each_append (IsWithin later_node.replica.views (next_place later_node) whole) hr.whole rest
+      (all_within_more later_node.replica.views (next_place h.node) (next_place later_node) hr.whole whole hr.whole (omega (arith, place_grows))
+      (λ k. let all = greatest_append k hr.whole rest in omega (arith, all)) knows.1)
+      (all_within_more later_node.replica.views (next_place later_node) (next_place later_node) later_node.entries whole rest (omega arith)
+      (λ k.
+      let own = ap (λ (es : List LogEntry). greatest_regency k es) entries ∙ greatest_append k (cut_at later_node.opening hr.whole) rest in
+      let all = greatest_append k hr.whole rest in
+      let least = cut_most k in
+      omega (arith, own, all, least))
+      (each_rest (IsWithin later_node.replica.views (next_place later_node) later_node.entries) (cut_at later_node.opening hr.whole) rest
+      (subst (λ (es : List LogEntry). Each (IsWithin later_node.replica.views (next_place later_node) later_node.entries) es) entries sound.within)))
+
+  pub whole_sound : IsSoundBook group_secret (stated w.sent) (views_after w.view w.chosen) whole
+  whole_sound = book_list m group_secret (stated w.sent) w.view w.chosen later_node whole (right_tame m w r.1) at_list whole_bounded whole_knows
+
+  whole_cut : later_node.entries ≡ cut_at later_node.opening whole
+  whole_cut = entries ∙ sym (cut_more later_node.opening hr.whole rest made)
+
+  whole_made : 0 < later_node.opening → HasMade whole later_node.opening
+  whole_made low = more_made later_node.opening hr.whole rest (made low)
+
+  whole_met : Each (EntryMet (IsMet w.sent)) whole
+  whole_met =
+      each_append (EntryMet (IsMet w.sent)) hr.whole rest hr.wrote.met
+      (each_rest (EntryMet (IsMet w.sent)) (cut_at later_node.opening hr.whole) rest
+      (subst (λ (es : List LogEntry). Each (EntryMet (IsMet w.sent)) es) entries (step-met m w i h event at may r.0.0).entries))
+
+  -- it has few entries
+  sourced : FromSources (sources w.sent) later_node
+  sourced = few-step m w.sent hr.whole h event came hr.few
+
+  whole_from : FromBook (sources w.sent) whole
+  whole_from =
+      from-written (sources w.sent) later_node.opening h.node.replica.place hr.whole rest
+      (newest_behind group_secret (stated w.sent) (views_after w.view w.chosen) hr.whole rest whole_sound) (some_long hr.whole some_whole) begun hr.few.written_from
+      (subst (λ (es : List LogEntry). FromBook (sources w.sent) es) entries sourced.book) hr.few.marks adds.later
+
+  pub whole_few : length whole < 2 ^ 28
+  whole_few = few-book group_secret (stated w.sent) (views_after w.view w.chosen) w.sent whole whole_sound whole_from r.1.short
 
   -- the text of a replica that it takes over is a snapshot of the list, so that replica is small
   taken_text : (f : Fetch) (x : Replica S) → IsReady taken f → are_all_there f ≡ true → IsTakenFrom m f x → IsSnapshotAt m w.view w.chosen (joined_of f)
   taken_text f x due all is =
-      installed-text m group_secret (stated w.sent) w.view w.chosen w.sent w.marked (is_among w.faulty) (diary w) (right-witnessed m w r.1 w.view (first_in_force w)) (right-marks m w r.1 on) r.0.0.texts (are_restorable m w service r.1) hr.whole taken taken_sound same_secret
+      installed-text m group_secret (stated w.sent) w.view w.chosen w.sent w.marked (is_among w.faulty) (diary w) (known-witnessed m w r.1 on) (right-marks m w r.1 on) r.0.0.texts (are_restorable m w service r.1) hr.whole taken taken_sound same_secret
       (same_book ∙ (hr.wrote.cut ∙ ap (λ (k : ℕ). cut_at k hr.whole) (sym same_opening))) along taken_at text f x due all is
 
   pub settles : IsBrief m → Settles m (takes_in h.node event).node
   settles brief = record { each = λ f x due all is. settled-by m brief w.view w.chosen (are_restorable m w service r.1) f x (taken_text f x due all is) is }
-
-  place_grows : h.node.replica.place ≤ later_node.replica.place
-  place_grows = let most = moves_place m taken later_node.replica (moved-step m h.node event) in let same = ap (λ (x : Replica S). x.place) same_waits.replica_is in omega (arith, most, same)
 
   whole_marks : Each (IsMarkUpTo later_node.replica.place) whole
   whole_marks =
       each_append (IsMarkUpTo later_node.replica.place) hr.whole rest
       (each-weaken (IsMarkUpTo h.node.replica.place) (IsMarkUpTo later_node.replica.place) (λ e up. up_to_more h.node.replica.place later_node.replica.place e place_grows up) hr.whole hr.few.marks)
       (each_rest (IsMarkUpTo later_node.replica.place) (cut_at later_node.opening hr.whole) rest (subst (λ (es : List LogEntry). Each (IsMarkUpTo later_node.replica.place) es) entries sourced.marks))
-
-  at_list : IsAt m w.view w.chosen later_node
-  at_list = record { reached = stands.reached; replica = stands.replica }
 
   -- one batch more is decided at most, and then it waits
   within : last_made whole ≤ length more
@@ -319,14 +356,28 @@ module _ {S : Type 0} (m : Meaning S) (w : World S) (i : ℕ) (h : Host S) (even
       let most = within-step w.chosen later_node later_node.waiting refl stands.reached in
       omega (arith, last, most)
 
-  front : take (length w.chosen) more ≡ w.chosen
-  front = chosen-front w.chosen (next_place later_node) later_node.waiting
+  -- in each batch of the longer list a request of the view manager stands alone
+  waits_tame : (o : Option Batch) → later_node.waiting ≡ o → IfSome o (λ (b : Batch). (is_alone b ≡ true) × (next_place later_node < 2 ^ 63))
+  waits_tame None is = tt
+  waits_tame (Some b) is = waits_alone (stated w.sent) w.view later_node b sound is
 
-  longer_at : IsAt m w.view more later_node
-  longer_at = at_longer m w.view w.chosen more later_node front at_list
+  first_waits : (o : Option Batch) → IfSome o (λ (b : Batch). (is_alone b ≡ true) × (next_place later_node < 2 ^ 63)) → IfSome o (λ (b : Batch). is_alone b ≡ true)
+  first_waits None is = tt
+  first_waits (Some b) is = is.0
+
+  second_waits : (o : Option Batch) → IfSome o (λ (b : Batch). (is_alone b ≡ true) × (next_place later_node < 2 ^ 63)) → IfSome o (λ (b : Batch). next_place later_node < 2 ^ 63)
+  second_waits None is = tt
+  second_waits (Some b) is = is.1
+
+  pub tame : IsTame w.view more
+  tame = record {
+    viewed = r.1.viewed;
+    alone = each-step (λ (b : Batch). is_alone b ≡ true) w.chosen later_node later_node.waiting (first_waits later_node.waiting (waits_tame later_node.waiting refl)) (right_tame m w r.1).alone;
+    low = low-step w.chosen later_node later_node.waiting (second_waits later_node.waiting (waits_tame later_node.waiting refl)) r.1.low;
+  }
 
   whole_right : BookRight w.sent w.view more whole
-  whole_right = record { sound = book_at group_secret (stated w.sent) w.view w.chosen more whole whole_sound; within = within }
+  whole_right = record { sound = book_list m group_secret (stated w.sent) w.view more later_node whole tame longer_at whole_bounded whole_knows; within = within }
 
   -- ---- its snapshots
 
@@ -519,13 +570,15 @@ module _ {S : Type 0} (m : Meaning S) (w : World S) (i : ℕ) (h : Host S) (even
           met = whole_met;
           past = omega (arith, opening, hr.wrote.past, place_grows);
           at = record { reached = longer_at.reached; replica = longer_at.replica };
+          knows = whole_knows;
+          bounded = whole_bounded;
         };
         count = counted.count;
         places = counted.places;
         agrees = each_rest (IsChosenAt m w.view more) after.earlier after.delivered listed;
         earlier = each_front (IsChosenAt m w.view more) after.earlier after.delivered listed;
         diary = diary_right;
-        aside = book_longer w.sent w.view w.chosen more front h.life.aside hr.aside;
+        aside = book_longer w.sent w.view w.chosen more tame front h.life.aside hr.aside;
         few = few-after m w.sent hr.whole whole (drop later_node.firm later_node.entries) h o sourced (begun-step m h.node event hr.few.begun) whole_from whole_marks diary_front hr.few;
       }
 
@@ -538,8 +591,10 @@ module _ {S : Type 0} (m : Meaning S) (w : World S) (i : ℕ) (h : Host S) (even
       let run : Running host-stepped.all host-stepped.past after = host-stepped.lasts.up up in
       subst (λ (k : List ℕ). Each (λ s. Among s (stated w.sent) ⊎ ((signer_of s ≡ Member later_node.id) × IsShown digest_of after.life.diary s)) (statements k x.message)) shared
       (running_shown (stated w.sent) w.view later_node run.first run.later after.life.diary x sound
-      (listed_book run.first (book_at group_secret (stated w.sent) w.view more w.chosen run.first (first_sound after.life.diary run.first run.later run.both diary_right.sound)))
+      (subst (λ (k : List ℕ). IsSoundBook k (stated w.sent) later_node.replica.views run.first) (sym shared)
+      (first_sound after.life.diary run.first run.later run.both (first_sound whole after.life.diary (drop later_node.firm later_node.entries) (sym diary_front) whole_knows)))
       run.both run.diary run.first_is run.first_made goes_later.low there low)
     where
-      first_sound : (d first behind : List LogEntry) → d ≡ first ++ behind → IsSoundBook group_secret (stated w.sent) (views_after w.view more) d → IsSoundBook group_secret (stated w.sent) (views_after w.view more) first
-      first_sound d first behind parts book = front_of group_secret (stated w.sent) (views_after w.view more) first behind (subst (λ (es : List LogEntry). IsSoundBook group_secret (stated w.sent) (views_after w.view more) es) parts book)
+      first_sound : (d first behind : List LogEntry) → d ≡ first ++ behind → IsSoundBook group_secret (stated w.sent) later_node.replica.views d → IsSoundBook group_secret (stated w.sent) later_node.replica.views first
+      first_sound d first behind parts book =
+          front_of group_secret (stated w.sent) later_node.replica.views first behind (subst (λ (es : List LogEntry). IsSoundBook group_secret (stated w.sent) later_node.replica.views es) parts book)

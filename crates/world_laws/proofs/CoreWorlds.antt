@@ -23,15 +23,15 @@ use Rattle.world_rules.specs.declared.crash.Patch.{Patch}
 use Rattle.world_rules.specs.declared.crash.NotAnImage.{NotAnImage}
 use Rattle.vote_book.specs.declared.entry.LogEntry.{LogEntry}
 use Rattle.smart_service.specs.declared.replica.Replica.{Replica}
-use Rattle.replica_rules.specs.Replicas.{after_batches}
+use Rattle.replica_rules.specs.Replicas.{after_batches, views_after}
 use Rattle.node_rules.specs.Reopening.{stopped, reopened, entries_in, decided_of, damage_of, outset_from, reopened_from}
 use Rattle.node_rules.specs.declared.node.Parts.{Parts}
 use Rattle.node_rules.specs.Tails as tails
 use Rattle.node_laws.proofs.Reopened.{reopened_is}
 use Rattle.world_rules.specs.Repeats.{repeated, turns, until_rest, each_from}
 use Rattle.world_rules.specs.Secrets.{group_secret}
-use Rattle.world_rules.specs.Premises.{texts_in, collides, texts_met, too_many, is_forged, bytes_of}
-use Rattle.world_rules.specs.Worlds.{Host, World, course_of, core_course, is_up, at_host, telling, host_crashed, crashes_with, host_crashes, crashes, crash_all, parts_held, host_resumed, resumes_from, host_resumes, resumes, restart_all, restart_at, restart_member, sends_all, told_drop, told_fired, chosen_with, host_after, stepped, host_takes, node_takes, disk_called, hears_firm, host_calls, calls_disk, takes_due, host_of_node, settle_once, settle, settle_all, gives, hearing, client_hears, hears_bytes, client_takes, client_asks, ask_found, asks, client_repeats, repeat_found, repeats, learns, learns_from, tells, goes, flow_sent, flow_once, flows, hosts_from, begun, is_listed, where_listed, at_listed, each_listed, host_index, at_index, at_member, arrives, arrives_at, sent_arrives, give_number, told_idle, telling_all, host_tries, tries_at, tries_each, give_one, shown_host, shown_client, shows, posts, is_gone, is_rogue, settle_present, declares_faulty, declares_rogue, injects_content, injects, is_halted, reaches, outset_of, meets, snapshot_in, steps_unless, takes_met, adds_node, adds_unless, hosts_below, is_name, new_host, with_new}
+use Rattle.world_rules.specs.Premises.{texts_in, collides, texts_met, is_forged, bytes_of, too_many_in}
+use Rattle.world_rules.specs.Worlds.{Host, World, course_of, core_course, is_up, at_host, telling, host_crashed, crashes_with, host_crashes, crashes, crash_all, parts_held, host_resumed, resumes_from, host_resumes, resumes, restart_all, restart_at, restart_member, sends_all, told_drop, told_fired, chosen_with, host_after, stepped, host_takes, node_takes, disk_called, hears_firm, host_calls, calls_disk, takes_due, host_of_node, settle_once, settle, settle_all, gives, hearing, client_hears, hears_bytes, client_takes, client_asks, ask_found, asks, client_repeats, repeat_found, repeats, learns, learns_from, tells, goes, flow_sent, flow_once, flows, hosts_from, begun, is_listed, where_listed, at_listed, each_listed, host_index, at_index, at_member, arrives, arrives_at, sent_arrives, give_number, told_idle, telling_all, host_tries, tries_at, tries_each, give_one, shown_host, shown_client, shows, posts, is_gone, is_rogue, settle_present, declares_faulty, declares_rogue, injects_content, injects, is_halted, reaches, outset_of, meets, snapshot_in, steps_unless, takes_met, adds_node, adds_unless, hosts_below, is_name, new_host, with_new, ending_few}
 use Rattle.node_rules.specs.Transfers.{completed_by}
 use Rattle.world_rules.specs.Plays.{has_member, has_party, is_there, line_played, rested, world_after, lines_told}
 use Rattle.client_quorum.specs.declared.client.Client.{Client}
@@ -48,11 +48,10 @@ use Rattle.world_rules.specs.Injections.{injected}
 use Rattle.world_rules.specs.declared.line.Injection.{Injection}
 use Rattle.world_rules.specs.declared.message.Content.{Content}
 use Rattle.std.proofs.lemmas.List.{length-map}
-use Rattle.client_quorum.specs.Clients.{reply_read}
-use Rattle.smart_statements.specs.Forms.{SignedBy}
-use Rattle.smart_statements.specs.declared.statement.Answer.{Answer}
 use Rattle.world_rules.specs.declared.line.Header.{Header}
 use Rattle.world_laws.proofs.Names.{map_insert}
+use Rattle.client_quorum.specs.Readings.{word_read}
+use Rattle.client_quorum.specs.declared.client.Word.{Word}
 
 -- lists, choices and repeated steps
 
@@ -100,9 +99,10 @@ posts_same w s =
 
 -- many messages leave
 sends_all_same : {S : Type 0} (id : ℕ) (view : View) (w : World S) (held : List Held) → sends_all id view (trimmed_world w) held ≡ trimmed_world (sends_all id view w held)
+unfolding trimmed_world
 sends_all_same id view w [] = refl
 sends_all_same id view w (h ∷ hs) =
-    ap (λ v. sends_all id view v hs) (posts_same w (from_node id view h)) ∙ sends_all_same id view (posts w (from_node id view h)) hs
+    ap (λ v. sends_all id view v hs) (posts_same w (from_node w id view h)) ∙ sends_all_same id view (posts w (from_node w id view h)) hs
 
 -- events of a node
 
@@ -129,6 +129,7 @@ stepped_same {S} m w i h o =
       hosts = hosts;
       chosen = chosen_with w.chosen (next_place o.node) o.node.waiting;
       told = w.told ++ (told_drop h.node.id o.dropped ++ flat_map (told_fired h.node.id) o.fired);
+      ending = ending_few w.view (chosen_with w.chosen (next_place o.node) o.node.waiting) w.faulty w.ending;
     })
     (flat_map snapshot_in o.fired) in
     ap (λ hosts. sends_all h.node.id (view_of o.node) (behind hosts) (leaving o.node.firm o.node.held)) (map_set trimmed_host w.hosts i (host_after (course_of m) h o))
@@ -312,15 +313,15 @@ give_one_same m members bytes member w =
 -- clients
 
 -- a client hears a message, or bytes that are none
-client_hears_same : {S : Type 0} (w : World S) (i : ℕ) (c : Client) (read : Option (SignedBy Answer)) → client_hears (trimmed_world w) i c read ≡ trimmed_world (client_hears w i c read)
+client_hears_same : {S : Type 0} (w : World S) (i : ℕ) (c : Client) (read : Option Word) → client_hears (trimmed_world w) i c read ≡ trimmed_world (client_hears w i c read)
 unfolding hearing trimmed_world
 client_hears_same w i c None = refl
-client_hears_same w i c (Some a) = refl
+client_hears_same w i c (Some word) = refl
 
 -- a client that is found hears bytes
 hears_bytes_same : {S : Type 0} (w : World S) (i : ℕ) (bytes : List ℕ) (found : Option Client) → hears_bytes (trimmed_world w) i bytes found ≡ trimmed_world (hears_bytes w i bytes found)
 hears_bytes_same w i bytes None = refl
-hears_bytes_same w i bytes (Some c) = client_hears_same w i c (reply_read (decoded bytes))
+hears_bytes_same w i bytes (Some c) = client_hears_same w i c (word_read (decoded bytes))
 
 -- the client at an index hears bytes
 client_takes_same : {S : Type 0} (i : ℕ) (bytes : List ℕ) (w : World S) → client_takes i bytes (trimmed_world w) ≡ trimmed_world (client_takes i bytes w)
@@ -334,7 +335,7 @@ unfolding trimmed_world
 client_asks_same w i c op (Some q) = refl
 client_asks_same w i c op None =
     choice_same trimmed_world (nat_lt (c.last + 1) (2 ^ 63) && nat_le (length op) 4096) _ _ _ _
-    (posts_same (asked_by w i c op) (from_client w.view c (ask_of c op))) refl
+    (posts_same (asked_by w i c op) (from_client c (ask_of c op))) refl
 
 -- a client that is found asks
 ask_found_same : {S : Type 0} (w : World S) (i : ℕ) (op : List ℕ) (found : Option Client) → ask_found (trimmed_world w) i op found ≡ trimmed_world (ask_found w i op found)
@@ -351,7 +352,7 @@ asks_same i op w = choice_same trimmed_world (is_halted w) _ _ _ _ refl (ask_fou
 client_repeats_same : {S : Type 0} (w : World S) (c : Client) (waiting : Option Request) → client_repeats (trimmed_world w) c waiting ≡ trimmed_world (client_repeats w c waiting)
 unfolding trimmed_world
 client_repeats_same w c None = refl
-client_repeats_same w c (Some q) = posts_same w (from_client w.view c (signed_by c q))
+client_repeats_same w c (Some q) = posts_same w (from_client c (signed_by c q))
 
 -- a client that is found does
 repeat_found_same : {S : Type 0} (w : World S) (found : Option Client) → repeat_found (trimmed_world w) found ≡ trimmed_world (repeat_found w found)
@@ -602,7 +603,7 @@ declares_faulty_same : {S : Type 0} (member : ℕ) (w : World S) → declares_fa
 unfolding declares_faulty trimmed_world
 declares_faulty_same member w =
     choice_same trimmed_world (is_halted w) _ _ _ _ refl
-    (choice_same trimmed_world (is_gone w member) _ _ _ _ refl (choice_same trimmed_world (too_many w.view (w.faulty ++ member ∷ [])) _ _ _ _ refl refl))
+    (choice_same trimmed_world (is_gone w member) _ _ _ _ refl (choice_same trimmed_world (too_many_in (views_after w.view w.chosen) (w.faulty ++ member ∷ [])) _ _ _ _ refl refl))
 
 declares_rogue_same : {S : Type 0} (client : ℕ) (w : World S) → declares_rogue client (trimmed_world w) ≡ trimmed_world (declares_rogue client w)
 unfolding declares_rogue trimmed_world
@@ -660,6 +661,7 @@ pub core_line : {S : Type 0} (m : Meaning S) (w : World S) (line : Line) → lin
 unfolding line_played
 core_line m w lines.Nothing = refl
 core_line m w (lines.Ask client op) = asks_same client op w
+core_line m w (lines.Change op) = asks_same 0 op w
 core_line m w (lines.Again client) = repeats_same client w
 core_line m w (lines.Tell from to) = tells_same from to w
 core_line m w (lines.Flow members) = flows_same m members w
@@ -699,6 +701,7 @@ pub there_same : {S : Type 0} (w : World S) (line : Line) → is_there (trimmed_
 unfolding is_there trimmed_world
 there_same w lines.Nothing = refl
 there_same w (lines.Ask client op) = refl
+there_same w (lines.Change op) = refl
 there_same w (lines.Again client) = refl
 there_same w (lines.Tell from to) = refl
 there_same w (lines.Flow members) = has_each_same (has_member (trimmed_world w)) (has_member w) (has_member_same w) members

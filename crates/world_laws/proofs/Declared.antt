@@ -1,17 +1,17 @@
 -- Faulty and rogue are those that lines declare.
 use Rattle.std.proofs.Common.{◌∙◌, ◌≡◌, ℕ, ◌++◌, true, false, List, [], ◌∷◌, refl, sym, Option, Some, None, is_some, inl, inr, ◌⊎◌, subst, append-nil, append_assoc, take}
-use Rattle.node_rules.specs.Nodes.{view_of}
+use Rattle.replica_rules.specs.Replicas.{views_after}
+use Rattle.node_rules.specs.Nodes.{view_of, next_place}
 use Rattle.std.specs.List.{flat_map}
-use Rattle.smart_statements.specs.Forms.{SignedBy}
-use Rattle.smart_statements.specs.declared.statement.Answer.{Answer}
 use Rattle.smart_service.specs.Services.{Meaning}
 use Rattle.node_rules.specs.Steps.{Outcome, leaving}
 use Rattle.vote_book.specs.Books.{Among}
 use Rattle.client_quorum.specs.declared.client.Client.{Client}
+use Rattle.client_quorum.specs.declared.client.Word.{Word}
 use Rattle.client_quorum.specs.declared.client.Heard.{Heard}
-use Rattle.world_rules.specs.Clients.{heard}
-use Rattle.world_rules.specs.Premises.{is_among, too_many}
-use Rattle.world_rules.specs.Worlds.{Course, course_of, Host, World, posts, snapshot_in, stepped, hearing, is_gone, is_rogue, declares_faulty, declares_rogue, begun, is_halted, adds_unless, adds_node, host_index, is_name, new_host, with_new}
+use Rattle.world_rules.specs.Clients.{heard_word}
+use Rattle.world_rules.specs.Premises.{is_among, too_many_in}
+use Rattle.world_rules.specs.Worlds.{Course, course_of, Host, World, posts, snapshot_in, stepped, hearing, is_gone, is_rogue, declares_faulty, declares_rogue, begun, is_halted, adds_unless, adds_node, host_index, is_name, new_host, with_new, chosen_with}
 use Rattle.world_rules.specs.Plays.{line_played, rested, world_after}
 use Rattle.world_rules.specs.declared.line.Line.{Line}
 use Rattle.world_rules.specs.declared.line.Line.TheVariants as lines
@@ -20,7 +20,7 @@ use Rattle.world_rules.specs.declared.message.Ending.TheVariants.{Premise}
 use Rattle.world_rules.specs.declared.message.Premise.TheVariants.{TooManyFaulty}
 use Rattle.world_rules.specs.declared.message.Sent.{Sent}
 use Rattle.world_laws.specs.Promises.{AreDeclared, world_at}
-use Rattle.world_laws.proofs.Meeting.{met-goes_on}
+use Rattle.world_laws.proofs.Meeting.{met-goes_on, step-goes_on}
 use Rattle.world_laws.proofs.Keeps.{IsCalm, KeepsCalmLives, calm-line_played, ask_of, asked_by, by-posts-ended, signed_by, from_node, from_client, from_script, keeps-sends_all}
 use Rattle.agreement_laws.proofs.Lists.{among_left, among_right, among_either, among_number, number_among, either, either_by}
 use Rattle.world_rules.specs.declared.line.Header.{Header}
@@ -119,10 +119,10 @@ stays-stepped : {S : Type 0} (course : Course S) (faulty rogue : List ℕ) (endi
     → Stays faulty rogue ending (stepped course w i h o)
 unfolding stepped
 stays-stepped {S = S} course faulty rogue ending w i h o is =
-    keeps-sends_all (λ (v : World S). Stays faulty rogue ending v) h.node.id (view_of o.node) (λ v held stays. stays-posts faulty rogue ending v (from_node h.node.id (view_of o.node) held) stays) _ (leaving o.node.firm o.node.held)
-    (record { faulty_is = is.faulty_is; rogue_is = is.rogue_is; on = λ on. is.on (met-goes_on w.sent w.marked w.ending (flat_map snapshot_in o.fired) on) })
+    keeps-sends_all (λ (v : World S). Stays faulty rogue ending v) h.node.id (view_of o.node) (λ v held stays. stays-posts faulty rogue ending v (from_node v h.node.id (view_of o.node) held) stays) _ (leaving o.node.firm o.node.held)
+    (record { faulty_is = is.faulty_is; rogue_is = is.rogue_is; on = λ on. is.on (step-goes_on w.view (chosen_with w.chosen (next_place o.node) o.node.waiting) w.faulty w.sent w.marked w.ending (flat_map snapshot_in o.fired) on) })
 
-stays-hearing : {S : Type 0} (faulty rogue : List ℕ) (ending : Option Ending) (w : World S) (i : ℕ) (c : Client) (a : SignedBy Answer) (h : Heard) → Stays faulty rogue ending w
+stays-hearing : {S : Type 0} (faulty rogue : List ℕ) (ending : Option Ending) (w : World S) (i : ℕ) (c : Client) (a : Word) (h : Heard) → Stays faulty rogue ending w
     → Stays faulty rogue ending (hearing w i c a h)
 unfolding hearing
 stays-hearing faulty rogue ending w i c a h is = record { faulty_is = is.faulty_is; rogue_is = is.rogue_is; on = is.on }
@@ -133,10 +133,10 @@ keeps-stays course faulty rogue ending =
       calm = record {
         event = λ w i h event on up at may is. stays-stepped course faulty rogue ending w i h (course.step h.node event) is;
         disk = λ w i h on up at is. record { faulty_is = is.faulty_is; rogue_is = is.rogue_is; on = is.on };
-        hear = λ w i c x a on at has read is. stays-hearing faulty rogue ending w i c a (heard w.view c a) is;
+        hear = λ w i c x a on at has read is. stays-hearing faulty rogue ending w i c a (heard_word c a) is;
         ask = λ w i c op on at free few brief is.
-            stays-posts faulty rogue ending (asked_by w i c op) (from_client w.view c (ask_of c op)) (record { faulty_is = is.faulty_is; rogue_is = is.rogue_is; on = is.on });
-        again = λ w i c q on at waits is. stays-posts faulty rogue ending w (from_client w.view c (signed_by c q)) is;
+            stays-posts faulty rogue ending (asked_by w i c op) (from_client c (ask_of c op)) (record { faulty_is = is.faulty_is; rogue_is = is.rogue_is; on = is.on });
+        again = λ w i c q on at waits is. stays-posts faulty rogue ending w (from_client c (signed_by c q)) is;
         learn = λ w i j c d on at other is. record { faulty_is = is.faulty_is; rogue_is = is.rogue_is; on = is.on };
         inject = λ w x on read fine is. stays-posts faulty rogue ending w (from_script x) is;
         end = λ w other on is. record { faulty_is = is.faulty_is; rogue_is = is.rogue_is; on = λ none. absurd (ended other none) };
@@ -188,7 +188,7 @@ declared-faulty {S = S} played w member is =
     either_by (λ (v : World S). Declared more v) (is_halted w) w _
     (λ over. (declared-over (λ id. lines.Faulty id) played line w.ending w.ending w.faulty (is_over w.ending over) is.0, other))
     (λ on. either_by (λ (v : World S). Declared more v) (is_gone w member) w _ (λ gone. (declared-again (λ id. lines.Faulty id) one_faulty played member w.ending w.faulty gone is.0, other))
-    (λ fresh. either (λ (v : World S). Declared more v) (too_many w.view faulty) _ _ (
+    (λ fresh. either (λ (v : World S). Declared more v) (too_many_in (views_after w.view w.chosen) faulty) _ _ (
       declared-over (λ id. lines.Faulty id) played line w.ending (Some (Premise TooManyFaulty)) w.faulty ended is.0,
       declared-over (λ id. lines.Rogue id) played line w.ending (Some (Premise TooManyFaulty)) w.rogue ended is.1,
     )

@@ -8,8 +8,6 @@ use Rattle.std.proofs.lemmas.List.Elements.{filter-append}
 use Rattle.smart_base.specs.Lists.{Each, Distinct}
 use Rattle.smart_base.specs.Views.{View}
 use Rattle.smart_base.proofs.ViewFacts.{each-weaken, view-distinct}
-use Rattle.smart_statements.specs.Forms.{SignedBy}
-use Rattle.smart_statements.specs.declared.statement.Answer.{Answer}
 use Rattle.smart_statements.specs.declared.entry.NodeEvent.{NodeEvent}
 use Rattle.smart_statements.specs.declared.entry.NodeEvent.TheVariants.{Arrive, Tick, Deliver, Firm}
 use Rattle.smart_service.specs.Services.{Meaning}
@@ -21,10 +19,11 @@ use Rattle.node_rules.specs.declared.node.Delivery.{Delivery}
 use Rattle.node_rules.specs.declared.node.Fired.{Fired}
 use Rattle.node_rules.specs.declared.node.Fired.TheVariants as fires
 use Rattle.world_rules.specs.Secrets.{group_secret}
-use Rattle.world_rules.specs.Clients.{heard}
+use Rattle.world_rules.specs.Clients.{heard_word}
 use Rattle.world_rules.specs.Worlds.{course_of, Host, World, posts, told_drop, told_fired, told_heard, segment_of, host_after, host_crashed, host_resumed, stepped, hearing, begun, hosts_from, parts_held, new_host}
 use Rattle.world_rules.specs.Plays.{line_played, rested, world_after, lines_told}
 use Rattle.client_quorum.specs.declared.client.Client.{Client}
+use Rattle.client_quorum.specs.declared.client.Word.{Word}
 use Rattle.client_quorum.specs.declared.client.Heard.{Heard}
 use Rattle.client_quorum.specs.declared.client.Heard.TheVariants as hears
 use Rattle.world_rules.specs.declared.line.Line.{Line}
@@ -76,11 +75,14 @@ none_aside id (outs.Sent number origin summary) aside = refl
 none_aside id (outs.Decided member place) aside = refl
 none_aside id (outs.Installed member place) aside = absurd aside
 none_aside id (outs.Delivered member place executed) aside = absurd aside
+none_aside id (outs.View member number) aside = refl
 none_aside id (outs.Promised member number regency) aside = refl
 none_aside id (outs.Synced member number regency base bound) aside = refl
 none_aside id (outs.Dropped member why) aside = refl
 none_aside id (outs.Counted client have need) aside = refl
 none_aside id (outs.Accepted client seq place index reply) aside = absurd aside
+none_aside id (outs.Viewed client have need) aside = refl
+none_aside id (outs.Moved client number) aside = refl
 none_aside id (outs.Ignored client why) aside = refl
 none_aside id (outs.Busy client seq) aside = refl
 none_aside id (outs.Absent member) aside = refl
@@ -98,6 +100,8 @@ none_aside id (outs.End lines messages) aside = refl
 none_heard : (client : ℕ) (h : Heard) (id : ℕ) → filter (is_delivery id) (told_heard client h ∷ []) ≡ []
 none_heard client (hears.Counted count need) id = refl
 none_heard client (hears.Accepted acceptance) id = refl
+none_heard client (hears.Viewed count need) id = refl
+none_heard client (hears.Moved number) id = refl
 none_heard client (hears.Ignored why) id = refl
 
 -- messages that leave
@@ -117,6 +121,7 @@ one_fired id (fires.Delivered d) = ap (λ (t : Bool). cond t (delivered_line id 
 one_fired id (fires.Marked snapshot) = refl
 one_fired id (fires.Adopted s) = refl
 one_fired id fires.Joined = refl
+one_fired id (fires.Viewed number) = refl
 one_fired id (fires.Promised p) = refl
 one_fired id fires.Led = refl
 one_fired id fires.Proposed = refl
@@ -149,6 +154,7 @@ other_one id other fires.Spoiled differ = refl
 other_one id other (fires.Marked snapshot) differ = refl
 other_one id other (fires.Adopted s) differ = refl
 other_one id other fires.Joined differ = refl
+other_one id other (fires.Viewed number) differ = refl
 other_one id other (fires.Promised p) differ = refl
 other_one id other fires.Led differ = refl
 other_one id other fires.Proposed differ = refl
@@ -227,7 +233,7 @@ told-stepped {S = S} m before w i h event at is =
     let lines : List OutLine = told_drop h.node.id o.dropped ++ flat_map (told_fired h.node.id) o.fired in
     let name : h'.node.id ≡ h.node.id = named-step m h.node event in
     let stay : names (slice_set w.hosts i h') ≡ names w.hosts = ids-set w.hosts i h h' at name in
-    keeps-sends_all (λ (v : World S). AllTold before v) h.node.id (view_of o.node) (λ v held all. told-posts before v (from_node h.node.id (view_of o.node) held) all) _ (leaving o.node.firm o.node.held)
+    keeps-sends_all (λ (v : World S). AllTold before v) h.node.id (view_of o.node) (λ v held all. told-posts before v (from_node v h.node.id (view_of o.node) held) all) _ (leaving o.node.firm o.node.held)
     (record {
       hosts = set_others (λ (g : Host S). HostTold before w.told g) (λ (g : Host S). HostTold before (w.told ++ lines) g) w.hosts i h h' is.once at
           (λ g differ all. none_more before w.told lines g.node.id (g.earlier ++ g.delivered) (other_told h.node.id g.node.id o.dropped o.fired differ) all)
@@ -253,7 +259,7 @@ told-set {S = S} before w i h h' at name same is =
     }
 
 -- a client that hears tells of no delivery
-told-hearing : {S : Type 0} (before : ℕ → List OutLine) (w : World S) (i : ℕ) (c : Client) (a : SignedBy Answer) (h : Heard) → AllTold before w → AllTold before (hearing w i c a h)
+told-hearing : {S : Type 0} (before : ℕ → List OutLine) (w : World S) (i : ℕ) (c : Client) (a : Word) (h : Heard) → AllTold before w → AllTold before (hearing w i c a h)
 unfolding hearing
 told-hearing before w i c a h is = record {
   hosts = all_more before w.told (told_heard c.id h ∷ []) w.hosts (none_heard c.id h) is.hosts;
@@ -288,9 +294,9 @@ keeps-deliveries {S = S} m before =
       live = record {
         event = λ w i h event on up at may is. told-stepped m before w i h event at is;
         disk = λ w i h on up at is. told-set before w i h (after_call (course_of m) h) at refl refl is;
-        hear = λ w i c x a on at has read is. told-hearing before w i c a (heard w.view c a) is;
-        ask = λ w i c op on at free few brief is. told-posts before (asked_by w i c op) (from_client w.view c (ask_of c op)) (record { hosts = is.hosts; once = is.once; nobody = is.nobody });
-        again = λ w i c q on at waits is. told-posts before w (from_client w.view c (signed_by c q)) is;
+        hear = λ w i c x a on at has read is. told-hearing before w i c a (heard_word c a) is;
+        ask = λ w i c op on at free few brief is. told-posts before (asked_by w i c op) (from_client c (ask_of c op)) (record { hosts = is.hosts; once = is.once; nobody = is.nobody });
+        again = λ w i c q on at waits is. told-posts before w (from_client c (signed_by c q)) is;
         learn = λ w i j c d on at other is. let one = told-line before w (learned_line c d.seen) (λ id. refl) is in record { hosts = one.hosts; once = one.once; nobody = one.nobody };
         inject = λ w x on read fine is. told-posts before w (from_script x) is;
         declare = λ w faulty rogue ending on how is. record { hosts = is.hosts; once = is.once; nobody = is.nobody };

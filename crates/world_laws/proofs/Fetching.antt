@@ -34,7 +34,7 @@ use Rattle.node_laws.proofs.Planning.{IsTakenFrom}
 use Rattle.node_rules.specs.Arrivals.{kept, noted, part_why, why_dropped, why_ignored, why_part}
 use Rattle.node_rules.specs.Changes.{adoption, adopts, adopts_by, asks_next, asks_state, joining, joins, lags, lead_with, leading, leads, passes_on, presses, promise_next, promises, promising, times, timing}
 use Rattle.node_rules.specs.Marks.{firm_at, mark_place}
-use Rattle.node_rules.specs.Nodes.{Node, holding, holding_all}
+use Rattle.node_rules.specs.Nodes.{Node, holding, holding_all, enters}
 use Rattle.node_rules.specs.Rules.{accept_batch, accepting, accepts, answer_line, answering, answers_again, decide_batch, decides, deciding, deliver_batch, delivers, lines_to_answer, propose_batch, proposes, proposing, replies_with, replying, write_batch, writes, writing}
 use Rattle.node_rules.specs.Steps.{step_of, takes_in}
 use Rattle.node_rules.specs.Transfers.{answers_state, completed_by, completed_for, completed_in, follow_plan, gives_parts, install_by, install_fetch, install_replica, installing, installs, is_of_group, offer_for, offers_state, part_messages, planning, plans, shown_after, spoil}
@@ -121,6 +121,7 @@ kept-met sent marked n (changes.Mark k) why met is = is
 kept-met sent marked n (changes.StateAsk a) why met is = is
 kept-met sent marked n (changes.StateOffer o) why met is = is
 kept-met sent marked n (changes.StatePart p) why met is = part-met sent marked p n.fetch why met
+kept-met sent marked n (changes.ViewTold i) why met is = is
 
 for_completed : {S : Type 0} (P : List ℕ → Type 0) (n : Node S) (event : NodeEvent) → Each P (completed_by n event) → ForEvent (λ message. Each P (completed_in n (Ok message))) event
 unfolding completed_by
@@ -241,7 +242,7 @@ same-deliver_batch : {S : Type 0} (m : Meaning S) (n : Node S) (batch : Option B
 unfolding deliver_batch
 same-deliver_batch m n None = refl
 same-deliver_batch m n (Some batch) =
-    same-replying (lines_to_answer m n batch) (record n { replica = delivered m n.replica batch; waiting = None; pool = settled (delivered m n.replica batch).table n.pool; impatient = false })
+    same-replying (lines_to_answer m n batch) (enters n (record n { replica = delivered m n.replica batch; waiting = None; pool = settled (delivered m n.replica batch).table n.pool; impatient = false }))
 
 same-delivers : {S : Type 0} (m : Meaning S) (n : Node S) → (delivers m n).fetch ≡ n.fetch
 unfolding delivers

@@ -5,7 +5,8 @@ use Rattle.std.specs.Prelude.{IfSome, slice_get}
 use Rattle.smart_base.specs.Lists.{Each}
 use Rattle.smart_base.specs.Views.{View, ascends, is_view}
 use Rattle.smart_statements.specs.Forms.{SignedBy}
-use Rattle.smart_messages.specs.Messages.{spelling, Fits, decoded, FitsContent, reply_in}
+use Rattle.smart_messages.specs.Messages.{spelling, Fits, decoded, FitsContent}
+use Rattle.smart_messages.specs.Regencies.{view_infos, view_info_short}
 use Rattle.smart_messages.specs.declared.message.Message.{Message}
 use Rattle.smart_statements.specs.Spelling.{IsSigner, FitsRequest}
 use Rattle.smart_statements.specs.Spelling as spells
@@ -21,19 +22,18 @@ use Rattle.smart_statements.specs.declared.entry.NodeEvent.TheVariants.{Arrive, 
 use Rattle.smart_service.specs.Services.{Meaning}
 use Rattle.node_rules.specs.Steps.{Outcome, step_of, takes_in, leaving}
 use Rattle.node_rules.specs.declared.node.Held.{Held}
-use Rattle.client_quorum.specs.Clients.{request_of, asking, learning, after_heard, reply_read}
-use Rattle.world_rules.specs.Clients.{heard}
+use Rattle.client_quorum.specs.Clients.{request_of, asking, learning}
+use Rattle.world_rules.specs.Clients.{heard_word}
 use Rattle.world_rules.specs.Worlds.{course_of, store_after, Host, Life, World, host_crashed, host_resumed, posts, sends_all, host_after, stepped, hearing, hosts_from, clients_from, begun, new_host}
 use Rattle.client_quorum.specs.declared.client.Client.{Client}
 use Rattle.client_quorum.specs.declared.client.Heard.{Heard}
-use Rattle.client_quorum.specs.declared.client.Heard.TheVariants as hears
 use Rattle.world_rules.specs.declared.message.Origin.{Origin}
 use Rattle.world_rules.specs.declared.message.Origin.TheVariants as origins
 use Rattle.world_rules.specs.declared.message.Sent.{Sent}
 use Rattle.replica_laws.specs.Sending.{orders}
 use Rattle.world_laws.specs.Sending.{AllGenuine, IsReadIfShort, IsHeardAs, IsReadAs, IsGenuineContent, IsGenuineFrom}
 use Rattle.world_laws.proofs.Lists.{each_set, each_get, each_insert}
-use Rattle.world_laws.proofs.Keeps.{with_host, node_resumed, after_call, MayCome, read_whole, read_fits, long_unread, ask_of, asked_by, KeepsBut, by-posts, ReadsSent, signed_by, OwnWaits, from_node, from_client, HasContent, IsRead, read_has, from_script, IsNew, added}
+use Rattle.world_laws.proofs.Keeps.{with_host, node_resumed, after_call, MayCome, read_whole, read_fits, long_unread, ask_of, asked_by, KeepsBut, by-posts, ReadsSent, signed_by, OwnWaits, from_node, from_client, HasContent, IsRead, from_script, IsNew, added, message_of, word_has, HasMessage}
 use Rattle.smart_statements.specs.Kinds.{requests, proposals, ballots, answers}
 use Rattle.smart_statements.specs.Statements.{request_small}
 use Rattle.replica_rules.specs.Seals.{signed}
@@ -70,6 +70,10 @@ use Rattle.node_rules.proofs.Rulewise.{ForRead}
 use Rattle.smart_statements.specs.Batches.{Batch, batch_text}
 use Rattle.world_rules.specs.declared.line.Header.{Header}
 use Rattle.world_laws.specs.Promises.{IsHeader}
+use Rattle.world_laws.proofs.Hearing.{Does, word_does}
+use Rattle.client_quorum.specs.Readings.{after_word, word_read, word_in}
+use Rattle.client_quorum.specs.declared.client.Word.{Word}
+use Rattle.client_quorum.specs.declared.client.Word.TheVariants as words
 
 -- what a client sends has a spelling
 pub record FitClient (c : Client) : Type 0 where
@@ -186,7 +190,7 @@ fit-posts {S = S} {m = m} w s read tagged is =
 -- messages of a node leave
 fit-sends_all : {S : Type 0} {m : Meaning S} (id : ℕ) (view : View) (w : World S) (held : List Held) → Each (λ h. IsGood group_secret h.message) held → AllFit m w → AllFit m (sends_all id view w held)
 fit-sends_all id view w [] each is = is
-fit-sends_all id view w (h ∷ hs) each is = fit-sends_all id view (posts w (from_node id view h)) hs each.1 (fit-posts w (from_node id view h) each.0.fits each.0 is)
+fit-sends_all id view w (h ∷ hs) each is = fit-sends_all id view (posts w (from_node w id view h)) hs each.1 (fit-posts w (from_node w id view h) each.0.fits each.0 is)
 
 -- a host's node takes an event
 fit-after : {S : Type 0} (m : Meaning S) (h : Host S) (o : Outcome S) → FitBook m group_secret o.node → FitHost m h → FitHost m (host_after (course_of m) h o)
@@ -228,11 +232,11 @@ no_request id q same = absurd (cc)
 one_waits : (id : ℕ) (new : Request) → FitsRequest id new → (q : Request) → Some new ≡ Some q → FitsRequest id q
 one_waits id new fit q same = subst (FitsRequest id) (some_equal new q same) fit
 
--- a client that has heard a reply
-fit-after_heard : (c : Client) (a : SignedBy Answer) (h : Heard) → a.statement.place < 2 ^ 63 → FitClient c → FitClient (after_heard c a h)
-fit-after_heard c a (hears.Counted count need) low is = record { named = is.named; seen = is.seen; waits = is.waits }
-fit-after_heard c a (hears.Accepted acceptance) low is = record { named = is.named; seen = omega (arith, low, is.seen); waits = no_request c.id }
-fit-after_heard c a (hears.Ignored why) low is = is
+-- a client that has heard a word
+fit-after_word : (c : Client) (word : Word) (h : Heard) (after : Client) → Does c word h after → ((a : SignedBy Answer) → word ≡ words.Reply a → a.statement.place < 2 ^ 63) → FitClient c → FitClient after
+fit-after_word c word h after (inl stays) low is = subst FitClient (sym stays.next) (record { named = is.named; seen = is.seen; waits = is.waits })
+fit-after_word c word h after (inr takes) low is =
+    subst FitClient (sym takes.next) (record { named = is.named; seen = omega (arith, low takes.reply takes.word_is, is.seen); waits = no_request c.id })
 
 -- the place of a reply
 reply-low : (a : SignedBy Answer) → FitsContent (Reply a) → a.statement.place < 2 ^ 63
@@ -254,11 +258,13 @@ keeps-fit {S = S} m =
       crash = λ w i h left up at may is.
           let fit : FitHost m h = each_get (FitHost m) w.hosts i h is.hosts at in
           fit-set w i (host_crashed (course_of m) h left) (record { node = fit.node; life = life-crashed EntryFits h left (book_fits h.node fit.node) fit.life }) is;
-      hear = λ w i c x a at has read is.
+      hear = λ w i c x a on at has read is.
           record {
             hosts = is.hosts;
-            clients = each_set FitClient w.clients i (after_heard c a (heard w.view c a)) is.clients
-                (fit-after_heard c a (heard w.view c a) (reply-low a (fit-reads w is (contents.Message (Reply a)) (read_has w x (Reply a) (fit-reads w is) has read))) (each_get FitClient w.clients i c is.clients at));
+            clients = each_set FitClient w.clients i (after_word c a (heard_word c a)) is.clients
+                (fit-after_word c a (heard_word c a) (after_word c a (heard_word c a)) (word_does c a)
+                (λ r same. reply-low r (fit-reads w is (contents.Message (Reply r)) (subst (λ (word : Word). HasMessage w.sent (message_of word)) same (word_has w x a (fit-reads w is) has read))))
+                (each_get FitClient w.clients i c is.clients at));
             sent = is.sent;
             tagged = is.tagged;
           };
@@ -266,7 +272,7 @@ keeps-fit {S = S} m =
           let fit = each_get FitClient w.clients i c is.clients at in
           let new : FitsRequest c.id (request_of c op) = record { client_is = refl; client_fits = fit.named; seq_fits = (omega arith, few); after_fits = fit.seen; op_fits = brief } in
           let good : IsGood group_secret (ask_of c op) = client-good c.id (request_of c op) new in
-          fit-posts (asked_by w i c op) (from_client w.view c (ask_of c op)) good.fits good
+          fit-posts (asked_by w i c op) (from_client c (ask_of c op)) good.fits good
           (record {
             hosts = is.hosts;
             clients = each_set FitClient w.clients i (asking c (request_of c op)) is.clients (record { named = fit.named; seen = fit.seen; waits = one_waits c.id (request_of c op) new });
@@ -275,7 +281,7 @@ keeps-fit {S = S} m =
           });
       again = λ w i c q at waits is.
           let good : IsGood group_secret (signed_by c q) = client-good c.id q ((each_get FitClient w.clients i c is.clients at).waits q waits) in
-          fit-posts w (from_client w.view c (signed_by c q)) good.fits good is;
+          fit-posts w (from_client c (signed_by c q)) good.fits good is;
       learn = λ w i j c d at other is.
           let fit = each_get FitClient w.clients i c is.clients at in
           record {
@@ -320,16 +326,16 @@ hosts_fit m view period (id ∷ ids) viewed low each =
     (record { node = spelled-opened group_secret m id view period each.0 viewed low; life = record { diary = tt; aside = tt } }, hosts_fit m view period ids viewed low each.1)
 
 -- clients that have not asked
-clients_fit : (count i : ℕ) → i + count ≤ 2 ^ 16 → Each FitClient (clients_from count i)
+clients_fit : (view : View) (count i : ℕ) → i + count ≤ 2 ^ 16 → Each FitClient (clients_from view count i)
 unfolding clients_from
-clients_fit zero i low = tt
-clients_fit (suc count) i low = (record { named = omega (arith, low); seen = omega arith; waits = no_request i }, clients_fit count (i + 1) (omega (arith, low)))
+clients_fit view zero i low = tt
+clients_fit view (suc count) i low = (record { named = omega (arith, low); seen = omega arith; waits = no_request i }, clients_fit view count (i + 1) (omega (arith, low)))
 
 -- a play begins so
 pub fit-begun : {S : Type 0} (m : Meaning S) (g : Header) → IsHeader g → AllFit m (begun m g)
 fit-begun m g is =
     let parts = view_parts g.view is.viewed in
-    record { hosts = hosts_fit m g.view g.period g.view.members is.viewed is.period_fits (ascending 0 g.view.members parts.1); clients = clients_fit 1025 0 (omega arith); sent = tt; tagged = tt }
+    record { hosts = hosts_fit m g.view g.period g.view.members is.viewed is.period_fits (ascending 0 g.view.members parts.1); clients = clients_fit g.view 1025 0 (omega arith); sent = tt; tagged = tt }
 
 -- a new node is added
 pub fit-added : {S : Type 0} (m : Meaning S) (w : World S) (i member : ℕ) → is_view w.view ≡ true → w.period < 2 ^ 32 → IsNew w member → AllFit m w → AllFit m (added (course_of m) w i member)
@@ -368,6 +374,9 @@ ordering-short (changes.Mark m) fits is =
     omega (arith, long, text, fits.statement_fits.digest_fits, fits.tag_fits)
 ordering-short (changes.StateAsk a) fits is = omega arith
 ordering-short (changes.StatePart p) fits is = omega (arith, fits.bytes_fit)
+ordering-short (changes.ViewTold i) fits is =
+    let long = signed-length view_infos i in
+    omega (arith, long, view_info_short i.statement fits.statement_fits, fits.tag_fits)
 ordering-short _ fits is = absurd (cc)
 
 -- so it is read
@@ -382,18 +391,19 @@ reads-as : (x : Content) → IsRead x → IsReadAs x
 reads-as (contents.Message message) fits = reads-short message fits
 reads-as (contents.Raw bytes) none = none
 
--- a message that is not read is no reply
-unread-reply : (m : Message) (at : ℕ) → FitsContent m → decoded (spelling m) ≡ Err at → None ≡ reply_in m
-unread-reply (Reply a) at fits is = let own : decoded (spelling (Reply a)) ≡ Ok (Reply a) = (reads-short (Reply a) fits).ordering refl in absurd (cc)
-unread-reply _ at fits is = refl
+-- a message that is not read is no member's word to a client
+unread-word : (m : Message) (at : ℕ) → FitsContent m → decoded (spelling m) ≡ Err at → None ≡ word_in m
+unread-word (Reply a) at fits is = let own : decoded (spelling (Reply a)) ≡ Ok (Reply a) = (reads-short (Reply a) fits).ordering refl in absurd (cc)
+unread-word (changes.ViewTold i) at fits is = let own : decoded (spelling (changes.ViewTold i)) ≡ Ok (changes.ViewTold i) = (reads-short (changes.ViewTold i) fits).ordering refl in absurd (cc)
+unread-word _ at fits is = refl
 
-heard-by : (m : Message) (read : Result Message ℕ) → FitsContent m → decoded (spelling m) ≡ read → reply_read read ≡ reply_in m
-heard-by m (Ok y) fits is = let own : decoded (spelling m) ≡ Ok m = spelling_is m (read_fits m y fits is) in let same : y ≡ m = cc in ap reply_in same
-heard-by m (Err at) fits is = unread-reply m at fits is
+heard-by : (m : Message) (read : Result Message ℕ) → FitsContent m → decoded (spelling m) ≡ read → word_read read ≡ word_in m
+heard-by m (Ok y) fits is = let own : decoded (spelling m) ≡ Ok m = spelling_is m (read_fits m y fits is) in let same : y ≡ m = cc in ap word_in same
+heard-by m (Err at) fits is = unread-word m at fits is
 
 heard-as : (x : Content) → IsRead x → IsHeardAs x
 heard-as (contents.Message m) fits = heard-by m (decoded (spelling m)) fits refl
-heard-as (contents.Raw bytes) none = ap reply_read none.unread
+heard-as (contents.Raw bytes) none = ap word_read none.unread
 
 -- and what nodes and clients sent is genuine
 genuine_content : (x : Content) → IsTaggedContent x → IsGenuineContent x

@@ -1,5 +1,5 @@
 -- In a play each batch that a node holds was in a message that was sent. Its text is the only one of its digest.
-use Rattle.std.proofs.Common.{◌≡◌, ℕ, ◌^◌, ◌<◌, ◌++◌, ◌==◌, ◌+◌, ◌&&◌, true, false, not, List, [], ◌∷◌, length, refl, sym, subst, inl, inr, Option, Some, None, Err, Ok, Result, ⊎_elim}
+use Rattle.std.proofs.Common.{Bool, ◌≡◌, ℕ, ◌^◌, ◌<◌, ◌++◌, ◌==◌, ◌+◌, ◌&&◌, true, false, not, List, [], ◌∷◌, length, refl, sym, subst, inl, inr, Option, Some, None, Err, Ok, Result, ⊎_elim}
 use Rattle.std.specs.Prelude.{option_map, slice_get, IfSome}
 use Rattle.std.specs.List.{list_any, filter_map, flat_map}
 use Rattle.smart_base.specs.Lists.{Each}
@@ -29,7 +29,7 @@ use Rattle.replica_rules.specs.Replicas.{is_next, delivered}
 use Rattle.replica_rules.specs.Pools.{offered, settled}
 use Rattle.node_rules.specs.Rules.{reply_of, replying, lines_to_answer, deliver_batch, delivers, proposing, propose_batch, proposes, writing, write_batch, writes, votable, written, accepting, accept_batch, accepts, deciding, decide_batch, decides, answering, answer_line, answers_again}
 use Rattle.node_rules.specs.Marks.{mark_of, mark_place, firm_at}
-use Rattle.node_rules.specs.Nodes.{Node, view_of, regency_of, next_place, open_slot, is_open, holding, holding_all}
+use Rattle.node_rules.specs.Nodes.{Node, view_of, regency_of, next_place, open_slot, is_open, holding, holding_all, entered, enters, recording, stays_in_view}
 use Rattle.node_rules.specs.Arrivals.{noted, kept}
 use Rattle.node_rules.specs.Changes.{adopts_by, adopts, adoption, asks_next, joining, joins, promising, promise_next, promises, leading, lead_with, leads, timing, passes_on, presses, times, asks_state, lags}
 use Rattle.node_rules.specs.Steps.{Outcome, step_of, takes_in, leaving, Outset}
@@ -146,15 +146,20 @@ met-answers_again : {S : Type 0} (M : Batch → Type 0) (n : Node S) (asked : As
 unfolding answers_again
 met-answers_again M n asked is = met-answer_line M n (answering n asked) is
 
+-- a node that is in a view, or that enters one
+met-entered : {S : Type 0} (M : Batch → Type 0) (stays : Bool) (n : Node S) → NodeMet M n → NodeMet M (entered stays n)
+met-entered M stays n is =
+    record { arrivals = either (λ (ms : List Message). Each (ProposalMet M) ms) stays n.arrivals [] is.arrivals tt; entries = is.entries; waiting = is.waiting; decisions = is.decisions }
+
 -- a batch is delivered
 met-deliver_batch : {S : Type 0} (M : Batch → Type 0) (m : Meaning S) (n : Node S) (batch : Option Batch) → NodeMet M n → NodeMet M (deliver_batch m n batch)
 unfolding deliver_batch
 met-deliver_batch M m n None is = is
-met-deliver_batch M m n (Some batch) is =
-    met-replying M
-    (record n { replica = delivered m n.replica batch; waiting = None; pool = settled (delivered m n.replica batch).table n.pool; impatient = false })
-    (lines_to_answer m n batch)
-    (record { arrivals = is.arrivals; entries = is.entries; waiting = tt; decisions = is.decisions })
+met-deliver_batch {S = S} M m n (Some batch) is =
+    let x : Node S = record n { replica = delivered m n.replica batch; waiting = None; pool = settled (delivered m n.replica batch).table n.pool; impatient = false } in
+    let y = met-replying M (enters n x) (lines_to_answer m n batch)
+    (met-entered M (stays_in_view n x) x (record { arrivals = is.arrivals; entries = is.entries; waiting = tt; decisions = is.decisions })) in
+    record { arrivals = y.arrivals; entries = y.entries; waiting = y.waiting; decisions = y.decisions }
 
 met-delivers : {S : Type 0} (M : Batch → Type 0) (m : Meaning S) (n : Node S) → NodeMet M n → NodeMet M (delivers m n)
 unfolding delivers
@@ -232,7 +237,10 @@ met-plans M n is = met-follow_plan M n (planning n) is
 
 met-install_replica : {S : Type 0} (M : Batch → Type 0) (n : Node S) (f : Fetch) (r : Replica S) → NodeMet M n → NodeMet M (install_replica n f r)
 unfolding install_replica
-met-install_replica M n f r is = record { arrivals = is.arrivals; entries = each_end (EntryMet M) n.entries (installed_by f.plan) is.entries tt; waiting = is.waiting; decisions = is.decisions }
+met-install_replica {S = S} M n f r is =
+    let x : Node S = record (recording n (installed_by f.plan)) { replica = r; pool = settled r.table n.pool; fetch = None } in
+    let next = met-entered M (stays_in_view n x) x (record { arrivals = is.arrivals; entries = each_end (EntryMet M) n.entries (installed_by f.plan) is.entries tt; waiting = is.waiting; decisions = is.decisions }) in
+    record { arrivals = next.arrivals; entries = next.entries; waiting = next.waiting; decisions = next.decisions }
 
 met-spoil : {S : Type 0} (M : Batch → Type 0) (n : Node S) (f : Fetch) → NodeMet M n → NodeMet M (spoil n f)
 unfolding spoil
@@ -465,7 +473,7 @@ met-stepped : {S : Type 0} (m : Meaning S) (w : World S) (i : ℕ) (h : Host S) 
 unfolding stepped
 met-stepped {S = S} m w i h o at met is =
     let M : Batch → Type 0 = IsMet w.sent in
-    keeps-sends_all Met h.node.id (view_of o.node) (λ v held met. met-posts v (from_node h.node.id (view_of o.node) held) met) _ (leaving o.node.firm o.node.held)
+    keeps-sends_all Met h.node.id (view_of o.node) (λ v held met. met-posts v (from_node v h.node.id (view_of o.node) held) met) _ (leaving o.node.firm o.node.held)
     (record {
       texts = texts-marked w.sent w.marked (flat_map snapshot_in o.fired) is.texts;
       hosts = each_set (HostMet M) w.hosts i (host_after (course_of m) h o) is.hosts (met-after M m h o met (each_get (HostMet M) w.hosts i h is.hosts at));
@@ -550,12 +558,12 @@ keeps-grounded {S = S} m =
           let met : HostMet (IsMet w.sent) h = each_get (HostMet (IsMet w.sent)) w.hosts i h is.hosts at in
           met-set w i (host_crashed (course_of m) h left) (k.crash w i h left up at may is.fit)
           (record { node = met.node; life = life-crashed (EntryMet (IsMet w.sent)) h left met.node.entries met.life }) is;
-      hear = λ w i c x a at has read is. record { fit = k.hear w i c x a at has read is.fit; texts = is.texts; hosts = is.hosts; chosen = is.chosen };
+      hear = λ w i c x a on at has read is. record { fit = k.hear w i c x a on at has read is.fit; texts = is.texts; hosts = is.hosts; chosen = is.chosen };
       ask = λ w i c op at free few short is.
-          whole (posts (asked_by w i c op) (from_client w.view c (ask_of c op))) (k.ask w i c op at free few short is.fit)
-          (met-posts (asked_by w i c op) (from_client w.view c (ask_of c op)) (record { texts = is.texts; hosts = is.hosts; chosen = is.chosen }));
+          whole (posts (asked_by w i c op) (from_client c (ask_of c op))) (k.ask w i c op at free few short is.fit)
+          (met-posts (asked_by w i c op) (from_client c (ask_of c op)) (record { texts = is.texts; hosts = is.hosts; chosen = is.chosen }));
       again = λ w i c q at waits is.
-          whole (posts w (from_client w.view c (signed_by c q))) (k.again w i c q at waits is.fit) (met-posts w (from_client w.view c (signed_by c q)) (part w is));
+          whole (posts w (from_client c (signed_by c q))) (k.again w i c q at waits is.fit) (met-posts w (from_client c (signed_by c q)) (part w is));
       learn = λ w i j c d at other is. record { fit = k.learn w i j c d at other is.fit; texts = is.texts; hosts = is.hosts; chosen = is.chosen };
       inject = λ w x read fine is. whole (posts w (from_script x)) (k.inject w x read fine is.fit) (met-posts w (from_script x) (part w is));
       declare = λ w faulty rogue ending how is. record { fit = k.declare w faulty rogue ending how is.fit; texts = is.texts; hosts = is.hosts; chosen = is.chosen };

@@ -2,16 +2,15 @@
 use Rattle.std.proofs.Common.{◌≡◌, ℕ, zero, suc, ◌≤◌, ◌==◌, Bool, true, false, List, [], ◌∷◌, length, refl, sym, cond, Some, subst, take, ap, ◌∙◌, Option, None, is_some, eqb-true}
 use Rattle.node_rules.specs.Nodes.{view_of}
 use Rattle.std.specs.Prelude.{slice_get, slice_set, insert}
-use Rattle.smart_statements.specs.Forms.{SignedBy}
-use Rattle.smart_statements.specs.declared.statement.Answer.{Answer}
 use Rattle.smart_statements.specs.declared.entry.NodeEvent.{NodeEvent}
 use Rattle.smart_service.specs.Services.{Meaning}
 use Rattle.vote_book.specs.declared.entry.LogEntry.{LogEntry}
 use Rattle.node_rules.specs.Steps.{Outcome, step_of, leaving}
 use Rattle.client_quorum.specs.declared.client.Client.{Client}
+use Rattle.client_quorum.specs.declared.client.Word.{Word}
 use Rattle.client_quorum.specs.declared.client.Acceptance.{Acceptance}
 use Rattle.client_quorum.specs.declared.client.Heard.{Heard}
-use Rattle.world_rules.specs.Clients.{heard}
+use Rattle.world_rules.specs.Clients.{heard_word}
 use Rattle.world_rules.specs.Secrets.{group_secret}
 use Rattle.world_rules.specs.Stated.{diary_of, diary}
 use Rattle.world_rules.specs.Worlds.{Course, course_of, Host, World, host_of, posts, stepped, host_after, host_crashed, host_resumed, acceptance_in, hearing, parts_held, new_host}
@@ -43,10 +42,10 @@ grown-posts {S = S} sent accepted w s is =
 grown-stepped : {S : Type 0} (course : Course S) (sent : List Sent) (accepted : List Acceptance) (w : World S) (i : ℕ) (h : Host S) (o : Outcome S) → Grown sent accepted w → Grown sent accepted (stepped course w i h o)
 unfolding stepped
 grown-stepped {S = S} course sent accepted w i h o is =
-    keeps-sends_all (λ (v : World S). Grown sent accepted v) h.node.id (view_of o.node) (λ v held grown. grown-posts sent accepted v (from_node h.node.id (view_of o.node) held) grown) _ (leaving o.node.firm o.node.held)
+    keeps-sends_all (λ (v : World S). Grown sent accepted v) h.node.id (view_of o.node) (λ v held grown. grown-posts sent accepted v (from_node v h.node.id (view_of o.node) held) grown) _ (leaving o.node.firm o.node.held)
     (record { has_sent = is.has_sent; has_accepted = is.has_accepted })
 
-grown-hearing : {S : Type 0} (sent : List Sent) (accepted : List Acceptance) (w : World S) (i : ℕ) (c : Client) (a : SignedBy Answer) (h : Heard) → Grown sent accepted w → Grown sent accepted (hearing w i c a h)
+grown-hearing : {S : Type 0} (sent : List Sent) (accepted : List Acceptance) (w : World S) (i : ℕ) (c : Client) (a : Word) (h : Heard) → Grown sent accepted w → Grown sent accepted (hearing w i c a h)
 unfolding hearing
 grown-hearing sent accepted w i c a h is = record { has_sent = is.has_sent; has_accepted = front-append accepted w.accepted (acceptance_in h) is.has_accepted }
 
@@ -58,9 +57,9 @@ keeps-grown course sent accepted =
         event = λ w i h event up at may is. grown-stepped course sent accepted w i h (course.step h.node event) is;
         disk = λ w i h up at is. record { has_sent = is.has_sent; has_accepted = is.has_accepted };
         crash = λ w i h left up at may is. record { has_sent = is.has_sent; has_accepted = is.has_accepted };
-        hear = λ w i c x a at has read is. grown-hearing sent accepted w i c a (heard w.view c a) is;
-        ask = λ w i c op at free few brief is. grown-posts sent accepted (asked_by w i c op) (from_client w.view c (ask_of c op)) (record { has_sent = is.has_sent; has_accepted = is.has_accepted });
-        again = λ w i c q at waits is. grown-posts sent accepted w (from_client w.view c (signed_by c q)) is;
+        hear = λ w i c x a on at has read is. grown-hearing sent accepted w i c a (heard_word c a) is;
+        ask = λ w i c op at free few brief is. grown-posts sent accepted (asked_by w i c op) (from_client c (ask_of c op)) (record { has_sent = is.has_sent; has_accepted = is.has_accepted });
+        again = λ w i c q at waits is. grown-posts sent accepted w (from_client c (signed_by c q)) is;
         learn = λ w i j c d at other is. record { has_sent = is.has_sent; has_accepted = is.has_accepted };
         inject = λ w x read fine is. grown-posts sent accepted w (from_script x) is;
         declare = λ w faulty rogue ending how is. record { has_sent = is.has_sent; has_accepted = is.has_accepted };
@@ -123,11 +122,11 @@ begins-stepped : {S : Type 0} (m : Meaning S) (front : List LogEntry) (member : 
 unfolding stepped
 begins-stepped {S = S} m front member w i h event at is =
     let o : Outcome S = step_of m h.node event in
-    keeps-sends_all (λ (v : World S). Begins front member v.hosts) h.node.id (view_of o.node) (λ v held begins. begins-posts front member v (from_node h.node.id (view_of o.node) held) begins) _ (leaving o.node.firm o.node.held)
+    keeps-sends_all (λ (v : World S). Begins front member v.hosts) h.node.id (view_of o.node) (λ v held begins. begins-posts front member v (from_node v h.node.id (view_of o.node) held) begins) _ (leaving o.node.firm o.node.held)
     (diary-set front member w.hosts i h (host_after (course_of m) h o) at (follows-step m h.node event) (λ own. front-append front h.life.diary _ own) is)
 
 -- a client hears
-begins-hearing : {S : Type 0} (front : List LogEntry) (member : ℕ) (w : World S) (i : ℕ) (c : Client) (a : SignedBy Answer) (h : Heard) → Begins front member w.hosts → Begins front member (hearing w i c a h).hosts
+begins-hearing : {S : Type 0} (front : List LogEntry) (member : ℕ) (w : World S) (i : ℕ) (c : Client) (a : Word) (h : Heard) → Begins front member w.hosts → Begins front member (hearing w i c a h).hosts
 unfolding hearing
 begins-hearing front member w i c a h is = is
 
@@ -174,9 +173,9 @@ keeps-diary m front member =
         event = λ w i h event up at may is. begins-stepped m front member w i h event at is;
         disk = λ w i h up at is. diary-set front member w.hosts i h (after_call (course_of m) h) at refl (λ own. own) is;
         crash = λ w i h left up at may is. diary-set front member w.hosts i h (host_crashed (course_of m) h left) at refl (λ own. front-append front h.life.diary _ own) is;
-        hear = λ w i c x a at has read is. begins-hearing front member w i c a (heard w.view c a) is;
-        ask = λ w i c op at free few brief is. begins-posts front member (asked_by w i c op) (from_client w.view c (ask_of c op)) is;
-        again = λ w i c q at waits is. begins-posts front member w (from_client w.view c (signed_by c q)) is;
+        hear = λ w i c x a on at has read is. begins-hearing front member w i c a (heard_word c a) is;
+        ask = λ w i c op at free few brief is. begins-posts front member (asked_by w i c op) (from_client c (ask_of c op)) is;
+        again = λ w i c q at waits is. begins-posts front member w (from_client c (signed_by c q)) is;
         learn = λ w i j c d at other is. is;
         inject = λ w x read fine is. begins-posts front member w (from_script x) is;
         declare = λ w faulty rogue ending how is. is;

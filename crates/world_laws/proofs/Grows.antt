@@ -1,16 +1,15 @@
 -- The list of chosen batches only grows, and the header stays.
 use Rattle.std.proofs.Common.{◌≡◌, ℕ, zero, suc, ◌+◌, ◌≤◌, ◌==◌, ◌++◌, List, [], ◌∷◌, length, refl, ap, ◌∙◌, arith, Option, Some, None, take}
-use Rattle.smart_statements.specs.Forms.{SignedBy}
 use Rattle.smart_statements.specs.Batches.{Batch}
-use Rattle.smart_statements.specs.declared.statement.Answer.{Answer}
 use Rattle.smart_service.specs.Services.{Meaning}
 use Rattle.node_rules.specs.Nodes.{next_place, view_of}
 use Rattle.node_rules.specs.Steps.{Outcome, leaving}
-use Rattle.world_rules.specs.Clients.{heard}
+use Rattle.world_rules.specs.Clients.{heard_word}
 use Rattle.world_rules.specs.Worlds.{Course, course_of, Host, World, posts, chosen_with, stepped, hearing, begun}
 use Rattle.world_rules.specs.Plays.{line_played, rested, world_after}
 use Rattle.world_laws.specs.Promises.{world_at}
 use Rattle.client_quorum.specs.declared.client.Client.{Client}
+use Rattle.client_quorum.specs.declared.client.Word.{Word}
 use Rattle.client_quorum.specs.declared.client.Heard.{Heard}
 use Rattle.world_rules.specs.declared.line.Line.{Line}
 use Rattle.world_laws.proofs.Keeps.{ask_of, asked_by, by-posts, KeepsAll, keeps-world_after, signed_by, from_node, from_client, from_script, keeps-sends_all}
@@ -45,22 +44,22 @@ front-chosen_with front chosen place (Some batch) is =
 chosen-stepped : {S : Type 0} (course : Course S) (w : World S) (i : ℕ) (h : Host S) (o : Outcome S) → (stepped course w i h o).chosen ≡ chosen_with w.chosen (next_place o.node) o.node.waiting
 unfolding stepped
 chosen-stepped {S = S} course w i h o =
-    keeps-sends_all (λ (v : World S). v.chosen ≡ chosen_with w.chosen (next_place o.node) o.node.waiting) h.node.id (view_of o.node) (λ v held is. chosen-posts v (from_node h.node.id (view_of o.node) held) ∙ is) _
+    keeps-sends_all (λ (v : World S). v.chosen ≡ chosen_with w.chosen (next_place o.node) o.node.waiting) h.node.id (view_of o.node) (λ v held is. chosen-posts v (from_node v h.node.id (view_of o.node) held) ∙ is) _
     (leaving o.node.firm o.node.held) refl
 
 -- a step keeps the header
 header-stepped : {S : Type 0} (course : Course S) (w : World S) (i : ℕ) (h : Host S) (o : Outcome S) → header_of (stepped course w i h o) ≡ header_of w
 unfolding stepped
 header-stepped {S = S} course w i h o =
-    keeps-sends_all (λ (v : World S). header_of v ≡ header_of w) h.node.id (view_of o.node) (λ v held is. header-posts v (from_node h.node.id (view_of o.node) held) ∙ is) _ (leaving o.node.firm o.node.held) refl
+    keeps-sends_all (λ (v : World S). header_of v ≡ header_of w) h.node.id (view_of o.node) (λ v held is. header-posts v (from_node v h.node.id (view_of o.node) held) ∙ is) _ (leaving o.node.firm o.node.held) refl
 
 -- a client that hears keeps the list
-chosen-hearing : {S : Type 0} (w : World S) (i : ℕ) (c : Client) (a : SignedBy Answer) (h : Heard) → (hearing w i c a h).chosen ≡ w.chosen
+chosen-hearing : {S : Type 0} (w : World S) (i : ℕ) (c : Client) (a : Word) (h : Heard) → (hearing w i c a h).chosen ≡ w.chosen
 unfolding hearing
 chosen-hearing w i c a h = refl
 
 -- a client that hears keeps the header
-header-hearing : {S : Type 0} (w : World S) (i : ℕ) (c : Client) (a : SignedBy Answer) (h : Heard) → header_of (hearing w i c a h) ≡ header_of w
+header-hearing : {S : Type 0} (w : World S) (i : ℕ) (c : Client) (a : Word) (h : Heard) → header_of (hearing w i c a h) ≡ header_of w
 unfolding hearing
 header-hearing w i c a h = refl
 
@@ -72,7 +71,7 @@ front-kept course front =
         event = λ w i h event up at may is. rw chosen-stepped (front-chosen_with front w.chosen (next_place (course.step h.node event).node) (course.step h.node event).node.waiting is);
         disk = λ w i h up at is. is;
         crash = λ w i h left up at may is. is;
-        hear = λ w i c x a at has read is. rw chosen-hearing is;
+        hear = λ w i c x a on at has read is. rw chosen-hearing is;
         ask = λ w i c op at free few brief is. rw chosen-posts is;
         again = λ w i c q at waits is. rw chosen-posts is;
         learn = λ w i j c d at other is. is;
@@ -93,9 +92,9 @@ header-kept course g =
         event = λ w i h event up at may is. header-stepped course w i h (course.step h.node event) ∙ is;
         disk = λ w i h up at is. is;
         crash = λ w i h left up at may is. is;
-        hear = λ w i c x a at has read is. header-hearing w i c a (heard w.view c a) ∙ is;
-        ask = λ w i c op at free few brief is. header-posts (asked_by w i c op) (from_client w.view c (ask_of c op)) ∙ is;
-        again = λ w i c q at waits is. header-posts w (from_client w.view c (signed_by c q)) ∙ is;
+        hear = λ w i c x a on at has read is. header-hearing w i c a (heard_word c a) ∙ is;
+        ask = λ w i c op at free few brief is. header-posts (asked_by w i c op) (from_client c (ask_of c op)) ∙ is;
+        again = λ w i c q at waits is. header-posts w (from_client c (signed_by c q)) ∙ is;
         learn = λ w i j c d at other is. is;
         inject = λ w x read fine is. header-posts w (from_script x) ∙ is;
         declare = λ w faulty rogue ending how is. is;

@@ -1,20 +1,20 @@
 -- What each event of a world keeps, the lines of a script keep.
 use Rattle.std.proofs.Common.{◌≡◌, not, ℕ, zero, suc, ◌+◌, ◌^◌, ◌<◌, ◌≤◌, ◌++◌, ◌∙◌, ◌&&◌, ◌||◌, ◌==◌, arith, Bool, true, false, List, [], ◌∷◌, length, refl, ap, cond, Option, Some, None, is_some, nat_lt, nat_le, inl, inr, ◌⊎◌, subst, Result, Ok, Err, ◌-◌, sym, append-nil, append_assoc, take, drop, eqb-true}
+use Rattle.replica_rules.specs.Replicas.{views_after}
 use Rattle.std.proofs.lemmas.Bool.{ltb-true, leb-true, leb-false, or_parts}
 use Rattle.std.specs.Prelude.{slice_get, slice_set, insert, get_or}
 use Rattle.std.specs.Option.{option_and_then}
 use Rattle.std.proofs.lemmas.List.{length-drop}
 use Rattle.smart_base.specs.Cuts.{IsBytes, Cut, whole, limited}
 use Rattle.smart_base.specs.Lists.{or_else, Each}
-use Rattle.smart_base.specs.Views.{View}
-use Rattle.smart_statements.specs.Forms.{SignedBy}
+use Rattle.smart_base.specs.Views.{View, present}
 use Rattle.smart_statements.specs.Kinds.{requests}
 use Rattle.smart_messages.specs.Messages.{Fits, spelling, decoded, message_at, FitsContent, content}
 use Rattle.smart_messages.proofs.Messages.{decoded_is, spelling_is}
 use Rattle.smart_messages.specs.declared.message.Message.{Message}
 use Rattle.smart_statements.specs.declared.statement.Request.{Request}
-use Rattle.smart_statements.specs.declared.statement.Answer.{Answer}
 use Rattle.smart_messages.specs.declared.message.Message.TheVariants.{Ask, Reply}
+use Rattle.smart_messages.specs.declared.message.Message.TheVariants as changes
 use Rattle.smart_statements.specs.declared.entry.NodeEvent.{NodeEvent}
 use Rattle.smart_statements.specs.declared.entry.NodeEvent.TheVariants.{Arrive, Tick, Deliver, Firm}
 use Rattle.replica_rules.specs.Seals.{signed}
@@ -31,15 +31,18 @@ use Rattle.member_store.proofs.Told.{may_leave}
 use Rattle.node_rules.specs.declared.node.Held.{Held}
 use Rattle.node_rules.specs.declared.node.Target.TheVariants as targets
 use Rattle.world_rules.specs.Secrets.{group_secret}
-use Rattle.world_rules.specs.Premises.{is_among, too_many, is_forged, texts_in, collides, texts_met, bytes_of}
+use Rattle.world_rules.specs.Premises.{is_among, too_many, is_forged, texts_in, collides, texts_met, bytes_of, too_many_in}
 use Rattle.world_rules.specs.Injections.{content_by, content_of, are_bytes, content_from, injected_bytes, injected}
-use Rattle.client_quorum.specs.Clients.{request_of, asking, learning, reply_read}
-use Rattle.world_rules.specs.Clients.{heard}
-use Rattle.world_rules.specs.Worlds.{Course, Host, World, is_up, remembered, life_called, switching_after, store_after, parts_held, host_crashed, crashes_with, host_crashes, crashes, host_resumed, resumes_from, host_resumes, resumes, restart_at, at_host, summary, telling, posts, sends_all, told_drop, told_fired, host_after, chosen_with, stepped, is_gone, is_rogue, new_host, adds_unless, adds_node, is_name, hosts_below, host_takes, node_takes, disk_called, hears_firm, host_calls, calls_disk, takes_due, settle_once, settle, told_absent, settle_present, settle_all, gives, hearing, client_hears, hears_bytes, client_takes, client_asks, ask_found, asks, client_repeats, repeat_found, repeats, learns, learns_from, tells, goes, flow_sent, flow_once, is_listed, where_listed, at_listed, each_listed, host_index, at_index, at_member, arrives, arrives_at, sent_arrives, give_number, told_idle, telling_all, host_tries, tries_at, tries_each, give_one, shown_host, shown_client, shows, declares_faulty, declares_rogue, injects_content, injects, is_halted, heard_by, reaches, meets, snapshot_in, takes_met}
+use Rattle.client_quorum.specs.Clients.{request_of, asking, learning}
+use Rattle.client_quorum.specs.Readings.{word_read}
+use Rattle.world_rules.specs.Clients.{heard_word}
+use Rattle.world_rules.specs.Worlds.{Course, Host, World, is_up, remembered, life_called, switching_after, store_after, parts_held, host_crashed, crashes_with, host_crashes, crashes, host_resumed, resumes_from, host_resumes, resumes, restart_at, at_host, summary, telling, posts, sends_all, told_drop, told_fired, host_after, chosen_with, stepped, is_gone, is_rogue, new_host, adds_unless, adds_node, is_name, hosts_below, host_takes, node_takes, disk_called, hears_firm, host_calls, calls_disk, takes_due, settle_once, settle, told_absent, settle_present, settle_all, gives, hearing, client_hears, hears_bytes, client_takes, client_asks, ask_found, asks, client_repeats, repeat_found, repeats, learns, learns_from, tells, goes, flow_sent, flow_once, is_listed, where_listed, at_listed, each_listed, host_index, at_index, at_member, arrives, arrives_at, sent_arrives, give_number, told_idle, telling_all, host_tries, tries_at, tries_each, give_one, shown_host, shown_client, shows, declares_faulty, declares_rogue, injects_content, injects, is_halted, heard_by, asked_in, reaches, meets, snapshot_in, takes_met, breaking, ending_few}
 use Rattle.world_rules.specs.Repeats.{repeated}
 use Rattle.store_laws.specs.Stops.{is_installed}
 use Rattle.world_rules.specs.Plays.{line_played, rested, world_after}
 use Rattle.client_quorum.specs.declared.client.Client.{Client}
+use Rattle.client_quorum.specs.declared.client.Word.{Word}
+use Rattle.client_quorum.specs.declared.client.Word.TheVariants as words
 use Rattle.client_quorum.specs.declared.client.Heard.{Heard}
 use Rattle.world_rules.specs.declared.line.Line.{Line}
 use Rattle.world_rules.specs.declared.line.Line.TheVariants as lines
@@ -56,7 +59,7 @@ use Rattle.world_rules.specs.declared.line.Injection.{Injection}
 use Rattle.world_laws.specs.Sending.{IsUnread}
 use Rattle.vote_book.specs.Books.{Among}
 use Rattle.node_rules.specs.Transfers.{completed_by}
-use Rattle.world_laws.proofs.Meeting.{all-met}
+use Rattle.world_laws.proofs.Meeting.{all-met, broken}
 use Rattle.world_laws.proofs.Lists.{repeated_keeps, until_rest_keeps, each_from_keeps}
 use Rattle.std.specs.List.{flat_map}
 use Rattle.smart_base.specs.declared.party.Party.{Party}
@@ -70,12 +73,12 @@ use Rattle.smart_base.proofs.SameLists.{and_true}
 -- what is sent
 
 -- what a node lets go
-abbrev pub from_node : ℕ → View → Held → Sent
-from_node id view h = record { origin = origins.Node id; to = heard_by view h.to; content = contents.Message h.message }
+abbrev pub from_node : {S : Type 0} → World S → ℕ → View → Held → Sent
+from_node w id view h = record { origin = origins.Node id; to = heard_by view (asked_in w.clients) h.to; content = contents.Message h.message }
 
--- what a client sends
-abbrev pub from_client : View → Client → Message → Sent
-from_client view c message = record { origin = origins.Client c.id; to = heard_by view targets.View; content = contents.Message message }
+-- what a client sends, to the members of its present view
+abbrev pub from_client : Client → Message → Sent
+from_client c message = record { origin = origins.Client c.id; to = heard_by (present c.views) [] targets.View; content = contents.Message message }
 
 -- what a script injects
 abbrev pub from_script : Content → Sent
@@ -186,11 +189,14 @@ IsBeside (outs.Sent number origin summary) = Unit {0}
 IsBeside (outs.Decided member place) = Unit {0}
 IsBeside (outs.Installed member place) = Unit {0}
 IsBeside (outs.Delivered member place executed) = Unit {0}
+IsBeside (outs.View member number) = Unit {0}
 IsBeside (outs.Promised member number regency) = Unit {0}
 IsBeside (outs.Synced member number regency base bound) = Unit {0}
 IsBeside (outs.Dropped member why) = Unit {0}
 IsBeside (outs.Counted client have need) = Unit {0}
 IsBeside (outs.Accepted client seq place index reply) = ⊥
+IsBeside (outs.Viewed client have need) = Unit {0}
+IsBeside (outs.Moved client number) = Unit {0}
 IsBeside (outs.Ignored client why) = Unit {0}
 IsBeside (outs.Busy client seq) = Unit {0}
 IsBeside (outs.Absent member) = Unit {0}
@@ -211,11 +217,14 @@ IsAside (outs.Sent number origin summary) = Unit {0}
 IsAside (outs.Decided member place) = Unit {0}
 IsAside (outs.Installed member place) = ⊥
 IsAside (outs.Delivered member place executed) = ⊥
+IsAside (outs.View member number) = Unit {0}
 IsAside (outs.Promised member number regency) = Unit {0}
 IsAside (outs.Synced member number regency base bound) = Unit {0}
 IsAside (outs.Dropped member why) = Unit {0}
 IsAside (outs.Counted client have need) = Unit {0}
 IsAside (outs.Accepted client seq place index reply) = ⊥
+IsAside (outs.Viewed client have need) = Unit {0}
+IsAside (outs.Moved client number) = Unit {0}
 IsAside (outs.Ignored client why) = Unit {0}
 IsAside (outs.Busy client seq) = Unit {0}
 IsAside (outs.Absent member) = Unit {0}
@@ -236,11 +245,14 @@ aside_beside (outs.Sent number origin summary) aside = tt
 aside_beside (outs.Decided member place) aside = tt
 aside_beside (outs.Installed member place) aside = absurd aside
 aside_beside (outs.Delivered member place executed) aside = absurd aside
+aside_beside (outs.View member number) aside = tt
 aside_beside (outs.Promised member number regency) aside = tt
 aside_beside (outs.Synced member number regency base bound) aside = tt
 aside_beside (outs.Dropped member why) aside = tt
 aside_beside (outs.Counted client have need) aside = tt
 aside_beside (outs.Accepted client seq place index reply) aside = absurd aside
+aside_beside (outs.Viewed client have need) aside = tt
+aside_beside (outs.Moved client number) aside = tt
 aside_beside (outs.Ignored client why) aside = tt
 aside_beside (outs.Busy client seq) aside = tt
 aside_beside (outs.Absent member) aside = tt
@@ -258,7 +270,7 @@ aside_beside (outs.End lines messages) aside = tt
 pub record Declares {S : Type 0} (w : World S) (faulty rogue : List ℕ) (ending : Option Ending) : Type 0 where
   pub more_faulty : (member : ℕ) → is_among w.faulty member ≡ true → is_among faulty member ≡ true
   pub more_rogue : (client : ℕ) → is_among w.rogue client ≡ true → is_among rogue client ≡ true
-  pub few : too_many w.view w.faulty ≡ false → too_many w.view faulty ≡ false
+  pub few : (v : View) → Among v (views_after w.view w.chosen) → too_many v w.faulty ≡ false → too_many v faulty ≡ false
   pub over : ending ≡ None → w.ending ≡ None
 
 -- a fact on worlds that each event keeps, but that a node goes on
@@ -271,14 +283,14 @@ pub record Keeps {S : Type 0} (course : Course S) (P : World S → Type 0) : Typ
   pub disk : (w : World S) (i : ℕ) (h : Host S) → IsUp w h → slice_get w.hosts i ≡ Some h → P w → P (called course w i h)
   -- the node of a host stops, and a crash leaves this of its devices
   pub crash : (w : World S) (i : ℕ) (h : Host S) (left : Images) → IsUp w h → slice_get w.hosts i ≡ Some h → MayLeave h.store.devices left → P w → P (with_host w i (host_crashed course h left))
-  -- a client hears the bytes of a content that are read as a reply
-  pub hear : (w : World S) (i : ℕ) (c : Client) (x : Content) (a : SignedBy Answer) → slice_get w.clients i ≡ Some c → HasContent w.sent x → decoded (bytes_of x) ≡ Ok (Reply a)
-      → P w → P (hearing w i c a (heard w.view c a))
+  -- a client hears the bytes of a content that are read as a member's word
+  pub hear : (w : World S) (i : ℕ) (c : Client) (x : Content) (a : Word) → w.ending ≡ None → slice_get w.clients i ≡ Some c → HasContent w.sent x → word_read (decoded (bytes_of x)) ≡ Some a
+      → P w → P (hearing w i c a (heard_word c a))
   -- a client asks
   pub ask : (w : World S) (i : ℕ) (c : Client) (op : List ℕ) → slice_get w.clients i ≡ Some c → c.waiting ≡ None → c.last + 1 < 2 ^ 63 → length op ≤ 4096 → P w
-      → P (posts (asked_by w i c op) (from_client w.view c (ask_of c op)))
+      → P (posts (asked_by w i c op) (from_client c (ask_of c op)))
   -- a client sends the request that waits once more
-  pub again : (w : World S) (i : ℕ) (c : Client) (q : Request) → slice_get w.clients i ≡ Some c → c.waiting ≡ Some q → P w → P (posts w (from_client w.view c (signed_by c q)))
+  pub again : (w : World S) (i : ℕ) (c : Client) (q : Request) → slice_get w.clients i ≡ Some c → c.waiting ≡ Some q → P w → P (posts w (from_client c (signed_by c q)))
   -- a client learns of the greatest place that another knows
   pub learn : (w : World S) (i j : ℕ) (c d : Client) → slice_get w.clients i ≡ Some c → slice_get w.clients j ≡ Some d → P w → P (learned_by w i c d.seen)
   -- a script injects what is not forged
@@ -296,14 +308,14 @@ pub record KeepsBut {S : Type 0} (course : Course S) (P : World S → Type 0) : 
   pub disk : (w : World S) (i : ℕ) (h : Host S) → IsUp w h → slice_get w.hosts i ≡ Some h → P w → P (called course w i h)
   -- the node of a host stops, and a crash leaves this of its devices
   pub crash : (w : World S) (i : ℕ) (h : Host S) (left : Images) → IsUp w h → slice_get w.hosts i ≡ Some h → MayLeave h.store.devices left → P w → P (with_host w i (host_crashed course h left))
-  -- a client hears the bytes of a content that are read as a reply
-  pub hear : (w : World S) (i : ℕ) (c : Client) (x : Content) (a : SignedBy Answer) → slice_get w.clients i ≡ Some c → HasContent w.sent x → decoded (bytes_of x) ≡ Ok (Reply a)
-      → P w → P (hearing w i c a (heard w.view c a))
+  -- a client hears the bytes of a content that are read as a member's word
+  pub hear : (w : World S) (i : ℕ) (c : Client) (x : Content) (a : Word) → w.ending ≡ None → slice_get w.clients i ≡ Some c → HasContent w.sent x → word_read (decoded (bytes_of x)) ≡ Some a
+      → P w → P (hearing w i c a (heard_word c a))
   -- a client asks
   pub ask : (w : World S) (i : ℕ) (c : Client) (op : List ℕ) → slice_get w.clients i ≡ Some c → c.waiting ≡ None → c.last + 1 < 2 ^ 63 → length op ≤ 4096 → P w
-      → P (posts (asked_by w i c op) (from_client w.view c (ask_of c op)))
+      → P (posts (asked_by w i c op) (from_client c (ask_of c op)))
   -- a client sends the request that waits once more
-  pub again : (w : World S) (i : ℕ) (c : Client) (q : Request) → slice_get w.clients i ≡ Some c → c.waiting ≡ Some q → P w → P (posts w (from_client w.view c (signed_by c q)))
+  pub again : (w : World S) (i : ℕ) (c : Client) (q : Request) → slice_get w.clients i ≡ Some c → c.waiting ≡ Some q → P w → P (posts w (from_client c (signed_by c q)))
   -- a client learns of the greatest place that another knows
   pub learn : (w : World S) (i j : ℕ) (c d : Client) → slice_get w.clients i ≡ Some c → slice_get w.clients j ≡ Some d → P w → P (learned_by w i c d.seen)
   -- a script injects what is not forged
@@ -330,14 +342,14 @@ pub record KeepsLive {S : Type 0} (course : Course S) (P : World S → Type 0) :
   pub meet : (w : World S) (texts : List (List ℕ)) → w.ending ≡ None → P w → P (meets w texts)
   -- the store of a host makes a device call
   pub disk : (w : World S) (i : ℕ) (h : Host S) → w.ending ≡ None → IsUp w h → slice_get w.hosts i ≡ Some h → P w → P (called course w i h)
-  -- a client hears the bytes of a content that are read as a reply
-  pub hear : (w : World S) (i : ℕ) (c : Client) (x : Content) (a : SignedBy Answer) → w.ending ≡ None → slice_get w.clients i ≡ Some c → HasContent w.sent x → decoded (bytes_of x) ≡ Ok (Reply a)
-      → P w → P (hearing w i c a (heard w.view c a))
+  -- a client hears the bytes of a content that are read as a member's word
+  pub hear : (w : World S) (i : ℕ) (c : Client) (x : Content) (a : Word) → w.ending ≡ None → slice_get w.clients i ≡ Some c → HasContent w.sent x → word_read (decoded (bytes_of x)) ≡ Some a
+      → P w → P (hearing w i c a (heard_word c a))
   -- a client asks
   pub ask : (w : World S) (i : ℕ) (c : Client) (op : List ℕ) → w.ending ≡ None → slice_get w.clients i ≡ Some c → c.waiting ≡ None → c.last + 1 < 2 ^ 63 → length op ≤ 4096 → P w
-      → P (posts (asked_by w i c op) (from_client w.view c (ask_of c op)))
+      → P (posts (asked_by w i c op) (from_client c (ask_of c op)))
   -- a client sends the request that waits once more
-  pub again : (w : World S) (i : ℕ) (c : Client) (q : Request) → w.ending ≡ None → slice_get w.clients i ≡ Some c → c.waiting ≡ Some q → P w → P (posts w (from_client w.view c (signed_by c q)))
+  pub again : (w : World S) (i : ℕ) (c : Client) (q : Request) → w.ending ≡ None → slice_get w.clients i ≡ Some c → c.waiting ≡ Some q → P w → P (posts w (from_client c (signed_by c q)))
   -- a client learns of the greatest place that another knows, and tells what it knows then
   pub learn : (w : World S) (i j : ℕ) (c d : Client) → w.ending ≡ None → slice_get w.clients i ≡ Some c → slice_get w.clients j ≡ Some d → P w
       → P (telling (learned_by w i c d.seen) (learned_line c d.seen))
@@ -363,6 +375,16 @@ pub record KeepsLives {S : Type 0} (course : Course S) (P : World S → Type 0) 
   -- a new node is added
   pub add : (w : World S) (i member : ℕ) → w.ending ≡ None → IsNew w member → P w → P (added course w i member)
 
+-- the same of what nodes and their stores do
+pub record KeepsNodes {S : Type 0} (course : Course S) (P : World S → Type 0) : Type 0 where
+  -- the node of a host takes an event
+  pub event : (w : World S) (i : ℕ) (h : Host S) (event : NodeEvent) → w.ending ≡ None → IsUp w h → slice_get w.hosts i ≡ Some h → MayTake w h event → P w
+      → P (stepped course w i h (course.step h.node event))
+  -- texts are met
+  pub meet : (w : World S) (texts : List (List ℕ)) → w.ending ≡ None → P w → P (meets w texts)
+  -- the store of a host makes a device call
+  pub disk : (w : World S) (i : ℕ) (h : Host S) → w.ending ≡ None → IsUp w h → slice_get w.hosts i ≡ Some h → P w → P (called course w i h)
+
 -- the same of all that happens but that somebody is declared faulty or rogue, or a node is added
 pub record KeepsCalm {S : Type 0} (course : Course S) (P : World S → Type 0) : Type 0 where
   -- the node of a host takes an event
@@ -372,14 +394,14 @@ pub record KeepsCalm {S : Type 0} (course : Course S) (P : World S → Type 0) :
   pub meet : (w : World S) (texts : List (List ℕ)) → w.ending ≡ None → P w → P (meets w texts)
   -- the store of a host makes a device call
   pub disk : (w : World S) (i : ℕ) (h : Host S) → w.ending ≡ None → IsUp w h → slice_get w.hosts i ≡ Some h → P w → P (called course w i h)
-  -- a client hears the bytes of a content that are read as a reply
-  pub hear : (w : World S) (i : ℕ) (c : Client) (x : Content) (a : SignedBy Answer) → w.ending ≡ None → slice_get w.clients i ≡ Some c → HasContent w.sent x → decoded (bytes_of x) ≡ Ok (Reply a)
-      → P w → P (hearing w i c a (heard w.view c a))
+  -- a client hears the bytes of a content that are read as a member's word
+  pub hear : (w : World S) (i : ℕ) (c : Client) (x : Content) (a : Word) → w.ending ≡ None → slice_get w.clients i ≡ Some c → HasContent w.sent x → word_read (decoded (bytes_of x)) ≡ Some a
+      → P w → P (hearing w i c a (heard_word c a))
   -- a client asks
   pub ask : (w : World S) (i : ℕ) (c : Client) (op : List ℕ) → w.ending ≡ None → slice_get w.clients i ≡ Some c → c.waiting ≡ None → c.last + 1 < 2 ^ 63 → length op ≤ 4096 → P w
-      → P (posts (asked_by w i c op) (from_client w.view c (ask_of c op)))
+      → P (posts (asked_by w i c op) (from_client c (ask_of c op)))
   -- a client sends the request that waits once more
-  pub again : (w : World S) (i : ℕ) (c : Client) (q : Request) → w.ending ≡ None → slice_get w.clients i ≡ Some c → c.waiting ≡ Some q → P w → P (posts w (from_client w.view c (signed_by c q)))
+  pub again : (w : World S) (i : ℕ) (c : Client) (q : Request) → w.ending ≡ None → slice_get w.clients i ≡ Some c → c.waiting ≡ Some q → P w → P (posts w (from_client c (signed_by c q)))
   -- a client learns of the greatest place that another knows, and tells what it knows then
   pub learn : (w : World S) (i j : ℕ) (c d : Client) → w.ending ≡ None → slice_get w.clients i ≡ Some c → slice_get w.clients j ≡ Some d → P w
       → P (telling (learned_by w i c d.seen) (learned_line c d.seen))
@@ -401,9 +423,20 @@ pub record KeepsCalmLives {S : Type 0} (course : Course S) (P : World S → Type
   pub resume : (w : World S) (i : ℕ) (h : Host S) → w.ending ≡ None → IsDown w h → slice_get w.hosts i ≡ Some h → P w
       → P (telling (with_host w i (host_resumed h (node_resumed course w h))) (resumed_line course w h))
 
+-- what is kept of all that happens, is of what nodes do
+pub nodes_of : {S : Type 0} (course : Course S) (P : World S → Type 0) → KeepsCalm course P → KeepsNodes course P
+nodes_of course P k = record { event = k.event; meet = k.meet; disk = k.disk }
+
+-- few of one of some views are faulty, if few of each are
+pub few_of : (faulty : List ℕ) (views : List View) (v : View) → too_many_in views faulty ≡ false → Among v views → too_many v faulty ≡ false
+few_of faulty [] v few there = absurd there
+few_of faulty (u ∷ us) v few there =
+    let parts = or_parts (too_many u faulty) (too_many_in us faulty) few in
+    elim there [ inl same ↦ subst (λ (x : View). too_many x faulty ≡ false) (sym same) parts.0 | inr later ↦ few_of faulty us v parts.1 later ]
+
 -- the play ends
 pub ends : {S : Type 0} (w : World S) (ending : Ending) → Declares w w.faulty w.rogue (Some ending)
-ends w ending = record { more_faulty = λ member is. is; more_rogue = λ client is. is; few = λ is. is; over = λ none. absurd (some_none none) }
+ends w ending = record { more_faulty = λ member is. is; more_rogue = λ client is. is; few = λ v there is. is; over = λ none. absurd (some_none none) }
   where
     some_none : Some ending ≡ None → ⊥
     some_none same = cc
@@ -435,7 +468,7 @@ live course P k =
       event = λ w i h event on up at may p. k.event w i h event up at may p;
       meet = λ w texts on p. k.meet w texts on p;
       disk = λ w i h on up at p. k.disk w i h up at p;
-      hear = λ w i c x a on at has read p. k.hear w i c x a at has read p;
+      hear = λ w i c x a on at has read p. k.hear w i c x a on at has read p;
       ask = λ w i c op on at free low brief p. k.ask w i c op at free low brief p;
       again = λ w i c q on at is p. k.again w i c q at is p;
       learn = λ w i j c d on at other p. k.same (learned_by w i c d.seen) w.mark (w.told ++ learned_line c d.seen ∷ []) (k.learn w i j c d at other p);
@@ -475,7 +508,7 @@ pub by-posts-ended : {S : Type 0} (P : World S → Type 0) (w : World S) (s : Se
     → (collides (texts_met w.sent w.marked) (texts_in s.content) ≡ false → nat_lt (length w.sent) (2 ^ 24) ≡ true → P (numbered w s)) → P (posts w s)
 unfolding posts
 by-posts-ended P w s over on =
-    either_by P (collides (texts_met w.sent w.marked) (texts_in s.content)) _ _ (λ clashes. over (Some (Premise Collision)) (λ none. ended_or None (Premise Collision) none))
+    either_by P (collides (texts_met w.sent w.marked) (texts_in s.content)) _ _ (λ clashes. over (breaking Collision w.ending) (λ none. broken Collision w.ending none))
     (λ free. either_by P (nat_lt (length w.sent) (2 ^ 24)) _ _ (λ room. on free room) (λ full. over (or_else w.ending (Some Limit)) (λ none. ended_or w.ending Limit none)))
 
 -- the same where it does not matter that the play has ended
@@ -484,10 +517,10 @@ pub by-posts : {S : Type 0} (P : World S → Type 0) (w : World S) (s : Sent) �
 by-posts P w s over on = by-posts-ended P w s (λ ending ended. over ending) on
 
 -- what is kept where a node lets a message go, is kept where it lets many go
-pub keeps-sends_all : {S : Type 0} (P : World S → Type 0) (id : ℕ) (view : View) → ((w : World S) (h : Held) → P w → P (posts w (from_node id view h))) → (w : World S) (held : List Held)
+pub keeps-sends_all : {S : Type 0} (P : World S → Type 0) (id : ℕ) (view : View) → ((w : World S) (h : Held) → P w → P (posts w (from_node w id view h))) → (w : World S) (held : List Held)
     → P w → P (sends_all id view w held)
 keeps-sends_all P id view keeps w [] p = p
-keeps-sends_all P id view keeps w (h ∷ hs) p = keeps-sends_all P id view keeps (posts w (from_node id view h)) hs (keeps w h p)
+keeps-sends_all P id view keeps w (h ∷ hs) p = keeps-sends_all P id view keeps (posts w (from_node w id view h)) hs (keeps w h p)
 
 -- messages stay
 
@@ -502,10 +535,10 @@ has-posts {S = S} x w s has = by-posts (λ (v : World S). HasContent v.sent x) w
 -- and where a node has taken an event
 pub has-stepped : {S : Type 0} (course : Course S) (w : World S) (i : ℕ) (h : Host S) (o : Outcome S) (x : Content) → HasContent w.sent x → HasContent (stepped course w i h o).sent x
 unfolding stepped
-has-stepped {S = S} course w i h o x has = keeps-sends_all (λ (v : World S). HasContent v.sent x) h.node.id (view_of o.node) (λ v held. has-posts x v (from_node h.node.id (view_of o.node) held)) _ (leaving o.node.firm o.node.held) has
+has-stepped {S = S} course w i h o x has = keeps-sends_all (λ (v : World S). HasContent v.sent x) h.node.id (view_of o.node) (λ v held. has-posts x v (from_node v h.node.id (view_of o.node) held)) _ (leaving o.node.firm o.node.held) has
 
 -- and where a client has heard a reply
-pub has-hearing : {S : Type 0} (w : World S) (i : ℕ) (c : Client) (a : SignedBy Answer) (h : Heard) (x : Content) → HasContent w.sent x → HasContent (hearing w i c a h).sent x
+pub has-hearing : {S : Type 0} (w : World S) (i : ℕ) (c : Client) (a : Word) (h : Heard) (x : Content) → HasContent w.sent x → HasContent (hearing w i c a h).sent x
 unfolding hearing
 has-hearing w i c a h x has = has
 
@@ -516,9 +549,9 @@ live-carries course P x k =
       event = λ w i h event on up at may p. (k.event w i h event on up at may p.0, has-stepped course w i h (course.step h.node event) x p.1);
       meet = λ w texts on p. (k.meet w texts on p.0, p.1);
       disk = λ w i h on up at p. (k.disk w i h on up at p.0, p.1);
-      hear = λ w i c y a on at has read p. (k.hear w i c y a on at has read p.0, has-hearing w i c a (heard w.view c a) x p.1);
-      ask = λ w i c op on at free low brief p. (k.ask w i c op on at free low brief p.0, has-posts x (asked_by w i c op) (from_client w.view c (ask_of c op)) p.1);
-      again = λ w i c q on at waits p. (k.again w i c q on at waits p.0, has-posts x w (from_client w.view c (signed_by c q)) p.1);
+      hear = λ w i c y a on at has read p. (k.hear w i c y a on at has read p.0, has-hearing w i c a (heard_word c a) x p.1);
+      ask = λ w i c op on at free low brief p. (k.ask w i c op on at free low brief p.0, has-posts x (asked_by w i c op) (from_client c (ask_of c op)) p.1);
+      again = λ w i c q on at waits p. (k.again w i c q on at waits p.0, has-posts x w (from_client c (signed_by c q)) p.1);
       learn = λ w i j c d on at other p. (k.learn w i j c d on at other p.0, p.1);
       inject = λ w y on read fine p. (k.inject w y on read fine p.0, has-posts x w (from_script y) p.1);
       end = λ w ending on p. (k.end w ending on p.0, p.1);
@@ -549,7 +582,7 @@ may_meets w texts h Deliver may = tt
 may_meets w texts h (Firm count) may = may
 
 -- the text that an event completes is met, and then a host takes it, unless the play has ended
-live-takes_met : {S : Type 0} (course : Course S) (P : World S → Type 0) → KeepsCalm course P → (i : ℕ) (event : NodeEvent) (w : World S) (h : Host S)
+live-takes_met : {S : Type 0} (course : Course S) (P : World S → Type 0) → KeepsNodes course P → (i : ℕ) (event : NodeEvent) (w : World S) (h : Host S)
     → w.ending ≡ None → IsUp w h → slice_get w.hosts i ≡ Some h → MayCome w h event → P w → P (takes_met course i event w h)
 live-takes_met {S = S} course P k i event w h on up at may p =
     let texts : List (List ℕ) = completed_by h.node event in
@@ -560,14 +593,14 @@ live-takes_met {S = S} course P k i event w h on up at may p =
     (record { on = halted_none v goes; come = may_meets w texts h event may; met = all-met w.sent w.marked w.ending texts (halted_none v goes) }) q)
 
 -- a host that is found takes an event
-live-host_takes : {S : Type 0} (course : Course S) (P : World S → Type 0) → KeepsCalm course P → (i : ℕ) (event : NodeEvent) (w : World S) (found : Option (Host S))
+live-host_takes : {S : Type 0} (course : Course S) (P : World S → Type 0) → KeepsNodes course P → (i : ℕ) (event : NodeEvent) (w : World S) (found : Option (Host S))
     → w.ending ≡ None → slice_get w.hosts i ≡ found → ((h : Host S) → found ≡ Some h → MayCome w h event) → P w → P (host_takes course i event w found)
 live-host_takes course P k i event w None on at may p = p
 live-host_takes course P k i event w (Some h) on at may p =
     either_by P (not (is_up w h)) w _ (λ not_up. p) (λ up. live-takes_met course P k i event w h on (is-up w h (not_false (is_up w h) up)) at (may h refl) p)
 
 -- the node at an index takes an event
-live-node_takes : {S : Type 0} (course : Course S) (P : World S → Type 0) → KeepsCalm course P → (i : ℕ) (event : NodeEvent) (w : World S)
+live-node_takes : {S : Type 0} (course : Course S) (P : World S → Type 0) → KeepsNodes course P → (i : ℕ) (event : NodeEvent) (w : World S)
     → ((h : Host S) → slice_get w.hosts i ≡ Some h → MayCome w h event) → P w → P (node_takes course i event w)
 unfolding node_takes
 live-node_takes course P k i event w may p = either_by P (is_halted w) w _ (λ over. p) (λ on. live-host_takes course P k i event w (slice_get w.hosts i) (halted_none w on) refl may p)
@@ -596,6 +629,7 @@ stepped-set {S = S} course w i g h o =
       hosts = hosts;
       chosen = chosen_with w.chosen (next_place o.node) o.node.waiting;
       told = w.told ++ (told_drop h.node.id o.dropped ++ flat_map (told_fired h.node.id) o.fired);
+      ending = ending_few w.view (chosen_with w.chosen (next_place o.node) o.node.waiting) w.faulty w.ending;
     })
     (flat_map snapshot_in o.fired))
     (leaving o.node.firm o.node.held)) (set_again w.hosts i g (host_after course h o))
@@ -606,7 +640,7 @@ unfolding completed_by
 firm_completes w h count = tt
 
 -- a node hears what is firm behind a call
-live-hears_firm : {S : Type 0} (course : Course S) (P : World S → Type 0) → KeepsCalm course P → (i : ℕ) (w : World S) (h : Host S) → w.ending ≡ None → IsUp w h
+live-hears_firm : {S : Type 0} (course : Course S) (P : World S → Type 0) → KeepsNodes course P → (i : ℕ) (w : World S) (h : Host S) → w.ending ≡ None → IsUp w h
     → slice_get w.hosts i ≡ Some h → P w → P (hears_firm course i w (disk_called course h))
 unfolding disk_called
 live-hears_firm course P k i w h on up at p =
@@ -619,7 +653,7 @@ live-hears_firm course P k i w h on up at p =
     (λ known. k.disk w i h on up at p)
 
 -- the store of a host that is found makes a call, if there is one
-live-host_calls : {S : Type 0} (course : Course S) (P : World S → Type 0) → KeepsCalm course P → (i : ℕ) (w : World S) (found : Option (Host S)) → w.ending ≡ None → slice_get w.hosts i ≡ found
+live-host_calls : {S : Type 0} (course : Course S) (P : World S → Type 0) → KeepsNodes course P → (i : ℕ) (w : World S) (found : Option (Host S)) → w.ending ≡ None → slice_get w.hosts i ≡ found
     → P w → P (host_calls course i w found)
 live-host_calls course P k i w None on at p = p
 live-host_calls course P k i w (Some h) on at p =
@@ -627,25 +661,25 @@ live-host_calls course P k i w (Some h) on at p =
     (λ up. either P (is_due is_installed h.store) _ w (live-hears_firm course P k i w h on (is-up w h (not_false (is_up w h) up)) at p) p)
 
 -- the store at an index does
-pub live-calls_disk : {S : Type 0} (course : Course S) (P : World S → Type 0) → KeepsCalm course P → (i : ℕ) (w : World S) → P w → P (calls_disk course i w)
+pub live-calls_disk : {S : Type 0} (course : Course S) (P : World S → Type 0) → KeepsNodes course P → (i : ℕ) (w : World S) → P w → P (calls_disk course i w)
 unfolding calls_disk
 live-calls_disk course P k i w p = either_by P (is_halted w) w _ (λ over. p) (λ on. live-host_calls course P k i w (slice_get w.hosts i) (halted_none w on) refl p)
 
 -- what is due
 
 -- a host that is found takes what is due
-live-takes_due : {S : Type 0} (course : Course S) (P : World S → Type 0) → KeepsCalm course P → (i : ℕ) (w : World S) (found : Option (Host S)) → P w → P (takes_due course i w found)
+live-takes_due : {S : Type 0} (course : Course S) (P : World S → Type 0) → KeepsNodes course P → (i : ℕ) (w : World S) (found : Option (Host S)) → P w → P (takes_due course i w found)
 live-takes_due course P k i w None p = p
 live-takes_due course P k i w (Some h) p =
     either P (is_due is_installed h.store) _ _ (live-calls_disk course P k i w p) (either P (is_some h.node.waiting) _ w (live-node_takes course P k i Deliver w (λ g at. tt) p) p)
 
 -- a node settles once
-pub live-settle_once : {S : Type 0} (course : Course S) (P : World S → Type 0) → KeepsCalm course P → (i : ℕ) (w : World S) → P w → P (settle_once course i w)
+pub live-settle_once : {S : Type 0} (course : Course S) (P : World S → Type 0) → KeepsNodes course P → (i : ℕ) (w : World S) → P w → P (settle_once course i w)
 unfolding settle_once
 live-settle_once course P k i w p = live-takes_due course P k i w (slice_get w.hosts i) p
 
 -- a node settles
-pub live-settle : {S : Type 0} (course : Course S) (P : World S → Type 0) → KeepsCalm course P → (i : ℕ) (w : World S) → P w → P (settle course i w)
+pub live-settle : {S : Type 0} (course : Course S) (P : World S → Type 0) → KeepsNodes course P → (i : ℕ) (w : World S) → P w → P (settle course i w)
 live-settle course P k i w p = until_rest_keeps P (settle_once course i) (live-settle_once course P k i) w p
 
 -- members that a line lists
@@ -696,7 +730,7 @@ live-settle_present : {S : Type 0} (course : Course S) (P : World S → Type 0) 
     → P (settle_present course members i w found)
 live-settle_present course P k members i w None p = p
 live-settle_present course P k members i w (Some h) p =
-    either P (is_up w h) (settle course i w) _ (live-settle course P k i w p) (live-telling_all course P k w (told_absent members h.node.id) (absent-aside members h.node.id) p)
+    either P (is_up w h) (settle course i w) _ (live-settle course P (nodes_of course P k) i w p) (live-telling_all course P k w (told_absent members h.node.id) (absent-aside members h.node.id) p)
 
 pub live-settles_present : {S : Type 0} (course : Course S) (P : World S → Type 0) → KeepsCalm course P → (members : List ℕ) (i : ℕ) (w : World S) → P w
     → P (settle_present course members i w (slice_get w.hosts i))
@@ -715,8 +749,8 @@ unfolding gives
 live-gives {S = S} course P k x i w p =
     let Q : World S → Type 0 = λ v. P v × HasContent v.sent x in
     let kq : KeepsCalm course Q = live-carries course P x k in
-    live-settle course Q kq i (node_takes course i (Arrive (bytes_of x)) w)
-    (live-node_takes course Q kq i (Arrive (bytes_of x)) w (λ h at. record { content = x; spelled = refl; has = p.1 }) p)
+    live-settle course Q (nodes_of course Q kq) i (node_takes course i (Arrive (bytes_of x)) w)
+    (live-node_takes course Q (nodes_of course Q kq) i (Arrive (bytes_of x)) w (λ h at. record { content = x; spelled = refl; has = p.1 }) p)
 
 -- what each node keeps that takes bytes, the node of a listed member keeps
 pub give_one-keeps : {S : Type 0} (course : Course S) (P : World S → Type 0) (members bytes : List ℕ) → ((i : ℕ) (w : World S) → P w → P (gives course bytes i w)) → (member : ℕ) (w : World S) → P w
@@ -727,17 +761,16 @@ give_one-keeps course P members bytes keeps member w p =
 -- clients
 
 -- a client hears what its bytes are read as
-live-client_hears : {S : Type 0} (course : Course S) (P : World S → Type 0) → KeepsCalm course P → (i : ℕ) (x : Content) (w : World S) (c : Client) (read : Result Message ℕ)
-    → w.ending ≡ None → slice_get w.clients i ≡ Some c → HasContent w.sent x → decoded (bytes_of x) ≡ read → P w → P (client_hears w i c (reply_read read))
-live-client_hears course P k i x w c (Err at) on here has is p = k.tell w _ tt p
-live-client_hears course P k i x w c (Ok (Reply a)) on here has is p = k.hear w i c x a on here has is p
-live-client_hears course P k i x w c (Ok _) on here has is p = k.tell w _ tt p
+live-client_hears : {S : Type 0} (course : Course S) (P : World S → Type 0) → KeepsCalm course P → (i : ℕ) (x : Content) (w : World S) (c : Client) (read : Option Word)
+    → w.ending ≡ None → slice_get w.clients i ≡ Some c → HasContent w.sent x → word_read (decoded (bytes_of x)) ≡ read → P w → P (client_hears w i c read)
+live-client_hears course P k i x w c None on here has is p = k.tell w _ tt p
+live-client_hears course P k i x w c (Some word) on here has is p = k.hear w i c x word on here has is p
 
 -- a client that is found hears bytes
 live-hears_bytes : {S : Type 0} (course : Course S) (P : World S → Type 0) → KeepsCalm course P → (i : ℕ) (x : Content) (w : World S) (found : Option Client)
     → w.ending ≡ None → slice_get w.clients i ≡ found → HasContent w.sent x → P w → P (hears_bytes w i (bytes_of x) found)
 live-hears_bytes course P k i x w None on at has p = p
-live-hears_bytes course P k i x w (Some c) on at has p = live-client_hears course P k i x w c (decoded (bytes_of x)) on at has refl p
+live-hears_bytes course P k i x w (Some c) on at has p = live-client_hears course P k i x w c (word_read (decoded (bytes_of x))) on at has refl p
 
 -- the client at an index hears bytes
 live-client_takes : {S : Type 0} (course : Course S) (P : World S → Type 0) → KeepsCalm course P → (i : ℕ) (x : Content) (w : World S) → HasContent w.sent x → P w → P (client_takes i (bytes_of x) w)
@@ -845,7 +878,7 @@ live-arrives {S = S} course P k x (parties.Member id) w p =
     let Q : World S → Type 0 = λ v. P v × HasContent v.sent x in
     let kq : KeepsCalm course Q = live-carries course P x k in
     at_member-keeps Q (λ i v. node_takes course i (Arrive (bytes_of x)) v)
-    (λ i v q. live-node_takes course Q kq i (Arrive (bytes_of x)) v (λ h at. record { content = x; spelled = refl; has = q.1 }) q) kq.tell id w p
+    (λ i v q. live-node_takes course Q (nodes_of course Q kq) i (Arrive (bytes_of x)) v (λ h at. record { content = x; spelled = refl; has = q.1 }) q) kq.tell id w p
 live-arrives {S = S} course P k x (parties.Client id) w p = live-client_takes course (λ (v : World S). P v × HasContent v.sent x) (live-carries course P x k) id x w p.1 p
 
 -- and at each of some
@@ -920,6 +953,7 @@ fired-beside id (fires.Delivered d) = (tt, tt)
 fired-beside id (fires.Marked snapshot) = tt
 fired-beside id (fires.Adopted s) = (tt, tt)
 fired-beside id fires.Joined = tt
+fired-beside id (fires.Viewed number) = (tt, tt)
 fired-beside id (fires.Promised p) = (tt, tt)
 fired-beside id fires.Led = tt
 fired-beside id fires.Proposed = tt
@@ -973,10 +1007,10 @@ live-declares_faulty course P k member w p =
     let faulty : List ℕ = w.faulty ++ member ∷ [] in
     either_by P (is_halted w) w _ (λ over. p)
     (λ on. either P (is_gone w member) w _ p
-    (either_by P (too_many w.view faulty) _ _
+    (either_by P (too_many_in (views_after w.view w.chosen) faulty) _ _
     (λ many. k.declare w w.faulty w.rogue (Some (Premise TooManyFaulty)) (halted_none w on) (ends w (Premise TooManyFaulty)) p)
     (λ few. k.declare w faulty w.rogue w.ending (halted_none w on)
-    (record { more_faulty = among-end w.faulty member; more_rogue = λ client is. is; few = λ before. few; over = λ is. is }) p)))
+    (record { more_faulty = among-end w.faulty member; more_rogue = λ client is. is; few = λ v there before. few_of faulty (views_after w.view w.chosen) v few there; over = λ is. is }) p)))
 
 -- a client is declared rogue
 live-declares_rogue : {S : Type 0} (course : Course S) (P : World S → Type 0) → KeepsLive course P → (client : ℕ) (w : World S) → P w → P (declares_rogue client w)
@@ -985,7 +1019,7 @@ live-declares_rogue course P k client w p =
     either_by P (is_halted w) w _ (λ over. p)
     (λ on. either P (is_rogue w client) w _ p
     (k.declare w w.faulty (w.rogue ++ client ∷ []) w.ending (halted_none w on)
-    (record { more_faulty = λ member is. is; more_rogue = among-end w.rogue client; few = λ is. is; over = λ is. is }) p))
+    (record { more_faulty = λ member is. is; more_rogue = among-end w.rogue client; few = λ v there is. is; over = λ is. is }) p))
 
 -- what is injected is read
 
@@ -1087,6 +1121,7 @@ live-adds_node course P k member w p =
 abbrev pub IsCalm : Line → Type 0
 IsCalm lines.Nothing = Unit {0}
 IsCalm (lines.Ask client op) = Unit {0}
+IsCalm (lines.Change op) = Unit {0}
 IsCalm (lines.Again client) = Unit {0}
 IsCalm (lines.Tell from to) = Unit {0}
 IsCalm (lines.Flow members) = Unit {0}
@@ -1111,15 +1146,16 @@ pub calm-line_played : {S : Type 0} (course : Course S) (P : World S → Type 0)
 unfolding line_played
 calm-line_played course P k w lines.Nothing is p = p
 calm-line_played course P k w (lines.Ask client op) is p = live-asks course P k.calm client op w p
+calm-line_played course P k w (lines.Change op) is p = live-asks course P k.calm 0 op w p
 calm-line_played course P k w (lines.Again client) is p = live-repeats course P k.calm client w p
 calm-line_played course P k w (lines.Tell from to) is p = live-tells course P k.calm from to w p
 calm-line_played course P k w (lines.Flow members) is p = until_rest_keeps P (flow_once course members) (live-flow_once course P k.calm members) (settle_all course members w) (live-settle_all course P k.calm members w p)
 calm-line_played course P k w (lines.Give number to) is p = live-give_number course P k.calm number to w p
 calm-line_played course P k w (lines.Deliver members) is p = live-tries_each course P k.calm Deliver tt members w p
 calm-line_played course P k w (lines.Tick members) is p = live-tries_each course P k.calm Tick tt members w p
-calm-line_played course P k w (lines.Settle member) is p = at_member-keeps P (settle course) (live-settle course P k.calm) k.calm.tell member w p
+calm-line_played course P k w (lines.Settle member) is p = at_member-keeps P (settle course) (live-settle course P (nodes_of course P k.calm)) k.calm.tell member w p
 calm-line_played course P k w (lines.Disk member count) is p =
-    at_member-keeps P (λ i v. repeated (calls_disk course i) count v) (λ i v q. repeated_keeps P (calls_disk course i) (live-calls_disk course P k.calm i) count v q) k.calm.tell member w p
+    at_member-keeps P (λ i v. repeated (calls_disk course i) count v) (λ i v q. repeated_keeps P (calls_disk course i) (live-calls_disk course P (nodes_of course P k.calm) i) count v q) k.calm.tell member w p
 calm-line_played course P k w (lines.Crash member image patches) is p = at_member-keeps P (crashes course image patches) (live-crashes course P k image patches) k.calm.tell member w p
 calm-line_played course P k w (lines.CrashAll image) is p = each_from_keeps P (crashes course image []) (live-crashes course P k image []) (length w.hosts) 0 w p
 calm-line_played course P k w (lines.Restart member) is p =
@@ -1137,6 +1173,7 @@ pub live-line_played : {S : Type 0} (course : Course S) (P : World S → Type 0)
 unfolding line_played
 live-line_played course P k w lines.Nothing p = calm-line_played course P (calm_lives course P k) w lines.Nothing tt p
 live-line_played course P k w (lines.Ask client op) p = calm-line_played course P (calm_lives course P k) w (lines.Ask client op) tt p
+live-line_played course P k w (lines.Change op) p = calm-line_played course P (calm_lives course P k) w (lines.Change op) tt p
 live-line_played course P k w (lines.Again client) p = calm-line_played course P (calm_lives course P k) w (lines.Again client) tt p
 live-line_played course P k w (lines.Tell from to) p = calm-line_played course P (calm_lives course P k) w (lines.Tell from to) tt p
 live-line_played course P k w (lines.Flow members) p = calm-line_played course P (calm_lives course P k) w (lines.Flow members) tt p
@@ -1254,6 +1291,22 @@ read_whole (contents.Raw bytes) y is read = let none : decoded bytes ≡ Err is.
 -- so it was sent where the content was
 pub read_has : {S : Type 0} (w : World S) (x : Content) (y : Message) → ReadsSent w → HasContent w.sent x → decoded (bytes_of x) ≡ Ok y → HasMessage w.sent y
 read_has w x y reads has read = subst (λ (z : Content). HasContent w.sent z) (read_is x y (reads x has) read) has
+
+-- the message that a member's word is
+abbrev pub message_of : Word → Message
+message_of (words.Reply a) = Reply a
+message_of (words.View i) = changes.ViewTold i
+
+-- bytes that are read as a word are read as that message
+word_reads : (read : Result Message ℕ) (word : Word) → word_read read ≡ Some word → read ≡ Ok (message_of word)
+word_reads (Err at) word is = absurd (cc)
+word_reads (Ok (Reply a)) word is = ap (λ (x : Word). Ok (message_of x)) (some_equal (words.Reply a) word is)
+word_reads (Ok (changes.ViewTold i)) word is = ap (λ (x : Word). Ok (message_of x)) (some_equal (words.View i) word is)
+word_reads (Ok _) word is = absurd (cc)
+
+-- so a word that was read was sent where the content was
+pub word_has : {S : Type 0} (w : World S) (x : Content) (word : Word) → ReadsSent w → HasContent w.sent x → word_read (decoded (bytes_of x)) ≡ Some word → HasMessage w.sent (message_of word)
+word_has w x word reads has read = read_has w x (message_of word) reads has (word_reads (decoded (bytes_of x)) word read)
 
 -- what may come is read where what was sent is
 pub may_read : {S : Type 0} (w : World S) (h : Host S) (event : NodeEvent) → ReadsSent w → MayCome w h event → MayRead w h event

@@ -1,14 +1,24 @@
 -- Whatever a crash leaves of a member's devices, it goes on from a front of the list, and the places of accepted replies are kept.
-use Rattle.world_laws.proofs.InForce.{first_in_force}
-use Rattle.world_laws.proofs.OneViews.{book_one}
-use Rattle.std.proofs.Common.{◌≡◌, inl, inr, ℕ, max, ◌+◌, ◌≤◌, ◌++◌, ◌==◌, ◌&&◌, ◌||◌, ◌∙◌, Bool, true, false, not, cond, List, [], ◌∷◌, length, take, drop, filter, subst, Option, IfSome, refl, ap, sym, arith, eqb-true, add-one, None, Some, ◌<◌}
+use Rattle.world_laws.proofs.InForce.{viewed_now}
+use Rattle.world_rules.specs.InForce.{IsInForce}
+use Rattle.agreement_laws.proofs.Groups.{all_listed, is_one}
+use Rattle.world_laws.proofs.Given.{filter_more}
+use Rattle.world_laws.proofs.Stands.{get_within}
+use Rattle.std.specs.List.{list_any}
+use Rattle.std.specs.Option.{option_and_then}
+use Rattle.std.proofs.lemmas.Bool.{or_left, or_right, or_parts, and_from}
+use Rattle.smart_statements.specs.declared.statement.Request.{Request}
+use Rattle.world_rules.specs.declared.message.Origin.{Origin}
+use Rattle.world_rules.specs.declared.message.Origin.TheVariants as origins
+use Rattle.world_laws.proofs.ListViews.{IsTame, book_own}
+use Rattle.std.proofs.Common.{◌≡◌, inl, inr, ℕ, max, ◌+◌, ◌≤◌, ◌++◌, ◌==◌, ◌&&◌, ◌||◌, ◌∙◌, Bool, true, false, not, cond, List, [], ◌∷◌, length, take, drop, filter, subst, Option, IfSome, refl, ap, sym, arith, eqb-true, add-one, None, Some, ◌<◌, ◌⊎◌, eq-eqb, zero, suc}
 use Rattle.std.proofs.lemmas.Bool.{le-leb}
 use Rattle.std.proofs.lemmas.List.{length-take-le, take-take, take-append-le, take-append-drop}
 use Rattle.std.proofs.Math.Seq.{take-append_seam}
 use Rattle.std.specs.Prelude.{map, option_map, slice_get}
-use Rattle.smart_base.specs.Lists.{Each}
-use Rattle.smart_base.specs.Views.{View, present as present_view, is_member}
-use Rattle.smart_base.proofs.ViewFacts.{quorum-honest}
+use Rattle.smart_base.specs.Lists.{Distinct, Each}
+use Rattle.smart_base.specs.Views.{View, is_member, is_view, quorum, weight_of}
+use Rattle.smart_base.proofs.ViewFacts.{quorum-honest, view-distinct}
 use Rattle.smart_base.specs.declared.party.Party.TheVariants.{Member}
 use Rattle.smart_statements.specs.Forms.{SignedBy}
 use Rattle.smart_statements.specs.Kinds.{answers}
@@ -17,12 +27,12 @@ use Rattle.smart_statements.specs.declared.statement.Answer.{Answer}
 use Rattle.smart_messages.specs.declared.message.Message.TheVariants.{Reply}
 use Rattle.smart_service.specs.Services.{Meaning}
 use Rattle.smart_service.specs.declared.replica.Replica.{Replica}
-use Rattle.vote_book.specs.Books.{HasMade, last_made}
+use Rattle.vote_book.specs.Books.{Among, HasMade, last_made}
 use Rattle.vote_book.specs.Entries.{FitsEntry, entry_text}
-use Rattle.book_laws.specs.BookCuts.{cut_at, InstallUpTo}
+use Rattle.book_laws.specs.BookCuts.{cut_at}
 use Rattle.book_laws.proofs.Places.{last_append}
 use Rattle.vote_book.specs.declared.entry.LogEntry.{LogEntry}
-use Rattle.replica_rules.specs.Replicas.{state, views_after}
+use Rattle.replica_rules.specs.Replicas.{state, Managed, managed, request_at, view_at, views_after}
 use Rattle.replica_rules.specs.Seals.{is_verified}
 use Rattle.store_laws.specs.Restored.{Images, restores}
 use Rattle.store_laws.specs.States.{StoreState, MayLeave}
@@ -40,9 +50,9 @@ use Rattle.agreement_laws.specs.Statements.{Statement, Replied}
 use Rattle.agreement_laws.specs.Diaries.{HasReached}
 use Rattle.node_rules.specs.Reopening.{damaged, damaged_behind, damage_of, entries_in, reopened, reopened_from}
 use Rattle.node_rules.specs.Steps.{Outset}
-use Rattle.node_laws.specs.Restored.{IsSoundBook}
 use Rattle.node_laws.specs.Restoring.{outset_behind}
-use Rattle.node_laws.proofs.Cuts.{read_cut, undamaged_cut}
+use Rattle.node_laws.proofs.CutRested.{undamaged_cut}
+use Rattle.node_laws.proofs.Cuts.{read_cut}
 use Rattle.world_rules.specs.Secrets.{group_secret}
 use Rattle.world_rules.specs.Premises.{is_among}
 use Rattle.world_rules.specs.Worlds.{Host, World, is_gone, with_front, written, life_crashed, parts_of}
@@ -52,25 +62,26 @@ use Rattle.world_rules.specs.declared.message.Content.TheVariants as contents
 use Rattle.world_rules.specs.declared.message.Sent.{Sent}
 use Rattle.client_quorum.specs.declared.client.Acceptance.{Acceptance}
 use Rattle.world_rules.specs.Stated.{stated}
-use Rattle.world_laws.specs.Sending.{has_replied, is_reply_of, is_of, is_for, is_reply, QuorumReplied}
+use Rattle.world_laws.specs.Sending.{has_replied, is_reply_of, is_of, is_for, is_reply, IsBorne, IsBorneAt, QuorumReplied, SentFirm}
 use Rattle.world_laws.proofs.Lists.{each_get}
 use Rattle.world_laws.proofs.Keeps.{HasMessage}
 use Rattle.world_laws.proofs.NoClash.{IsMet}
-use Rattle.world_laws.proofs.Lives.{EachLife, book_left, take_whole, each_drop, Running, Stopped, Lasts, Crashed, crashed, begins_both, front_whole, stopped_long, left_texts, left_upto}
+use Rattle.world_laws.proofs.Lives.{EachLife, book_left, take_whole, each_drop, Running, Stopped, Lasts, Crashed, crashed, begins_both, front_whole, stopped_long, left_made, left_texts, left_upto}
 use Rattle.world_laws.proofs.Ahead.{one_of, written_fits}
 use Rattle.world_laws.proofs.Snapshots.{IsSnapshotAt, AreRestorable, snapshot_place, snapshot_replica}
 use Rattle.world_laws.proofs.ChosenLives.{left_right, outset_left, own_left}
 use Rattle.world_laws.proofs.Reopens.{GoesBehind, behind_replica}
 use Rattle.world_laws.proofs.Fitting.{spelled-life}
 use Rattle.world_laws.proofs.Grounded.{EntryMet, HostMet}
-use Rattle.world_laws.proofs.Chosen.{BookRight, HostRight, ChosenRight, book-along, front_right}
+use Rattle.world_laws.proofs.Chosen.{BookRight, HostRight, ChosenRight, book-along, front_right, numbered_at, right_tame}
 use Rattle.world_laws.proofs.ChosenKept.{host-right, host-fit, diary-few}
 use Rattle.world_laws.proofs.Witnessing.{ShowsOwn, few_faulty}
 use Rattle.world_laws.proofs.Replied.{reply_there}
-use Rattle.agreement_laws.proofs.Lists.{each_take, each_append, either}
+use Rattle.agreement_laws.proofs.Lists.{among_filtered, among_number, each_append, each_from, each_take, either, number_among, or_true}
 use Rattle.smart_base.proofs.SameLists.{and_true}
-use Rattle.replica_rules.proofs.Places.{state_place, state_views}
-use Rattle.world_laws.proofs.Names.{filter_both}
+use Rattle.replica_rules.proofs.Managed.{managed_state}
+use Rattle.replica_rules.proofs.Places.{state_place}
+use Rattle.world_laws.proofs.Names.{names}
 
 -- ---- what a crash leaves
 
@@ -179,19 +190,23 @@ left_made_diary m w h left b =
 -- ---- what is restored is not damaged
 
 parts_undamaged : {S : Type 0} (m : Meaning S) (secret : List ℕ) (stated : List Statement) (view : View) (chosen : List Batch) → AreRestorable m view chosen → (present : Option Checkpoint) (entries : List (List ℕ)) (book : List LogEntry)
-    → IsSoundBook secret stated (views_after view chosen) book → InstallUpTo (checkpoint_place present) book → Each FitsEntry book → IfSome present (λ (x : Checkpoint). IsSnapshotAt m view chosen x.snapshot) → entries ≡ map entry_text (cut_at (checkpoint_place present) book)
-    → damage_of m secret view (record { snapshot = option_map (λ x. x.snapshot) present; entries = entries }) ≡ None
-unfolding damage_of views_after
-parts_undamaged m secret stated view chosen a None entries book sound upto fits asked is =
-    ap (λ (es : List (List ℕ)). damaged secret 0 view es) is ∙ undamaged_cut secret stated view 0 book (book_one secret stated view chosen book sound) upto fits
-parts_undamaged {S = S} m secret stated view chosen a (Some x) entries book sound upto fits asked is =
+    → IsTame view chosen → GoesBehind secret stated view (checkpoint_place present) chosen book → Each FitsEntry book → IfSome present (λ (x : Checkpoint). IsSnapshotAt m view chosen x.snapshot)
+    → entries ≡ map entry_text (cut_at (checkpoint_place present) book) → damage_of m secret view (record { snapshot = option_map (λ x. x.snapshot) present; entries = entries }) ≡ None
+unfolding damage_of
+parts_undamaged m secret stated view chosen a None entries book tame goes fits asked is =
+    let own = book_own secret stated view chosen book tame goes.along.reached goes.sound in
+    ap (λ (es : List (List ℕ)). damaged secret 0 (record { seq = 0; views = view ∷ [] }) es) is ∙ undamaged_cut secret stated view 0 chosen book own.are own.sound goes.made goes.upto goes.along fits
+parts_undamaged {S = S} m secret stated view chosen a (Some x) entries book tame goes fits asked is =
+    let own = book_own secret stated view chosen book tame goes.along.reached goes.sound in
     let chosen_front : List Batch = take asked.place chosen in
     let at : stated_place x.snapshot ≡ asked.place = snapshot_place m view chosen x.snapshot a.low asked in
     let place : (state m view chosen_front).place ≡ stated_place x.snapshot = state_place m view chosen_front ∙ (length-take-le asked.place chosen asked.within ∙ sym at) in
     ap (λ (o : Option (Replica S)). damaged_behind secret entries o) (snapshot_replica m a.service view chosen x.snapshot a.viewed a.begins a.low a.of asked)
-    ∙ (ap (λ (vs : List View). damaged secret (state m view chosen_front).place (present_view vs) entries) (state_views m view chosen_front)
-    ∙ (ap (λ (k : ℕ). damaged secret k view entries) place
-    ∙ (ap (λ (es : List (List ℕ)). damaged secret (stated_place x.snapshot) view es) is ∙ undamaged_cut secret stated view (stated_place x.snapshot) book (book_one secret stated view chosen book sound) upto fits)))
+    ∙ (ap (λ (g : Managed). damaged secret (state m view chosen_front).place g entries) (managed_state m view chosen_front)
+    ∙ (ap (λ (k : ℕ). damaged secret (state m view chosen_front).place (managed view (take k chosen)) entries) (sym at)
+    ∙ (ap (λ (k : ℕ). damaged secret k (managed view (take (stated_place x.snapshot) chosen)) entries) place
+    ∙ (ap (λ (es : List (List ℕ)). damaged secret (stated_place x.snapshot) (managed view (take (stated_place x.snapshot) chosen)) es) is
+    ∙ undamaged_cut secret stated view (stated_place x.snapshot) chosen book own.are own.sound goes.made goes.upto goes.along fits))))
 
 -- ---- the replica that goes on
 
@@ -243,13 +258,19 @@ recovers {S = S} m w i h at a r =
       made = λ left may past.
           subst (λ (es : List LogEntry). HasMade es (checkpoint_place (restores left).present)) (sym (left_made_diary m w h left (b left may))) ((b left may).front.made past);
       undamaged = λ left may.
-          parts_undamaged m group_secret (stated w.sent) w.view w.chosen a (restores left).present (restores left).entries (take (b left may).count (book_left h)) (b left may).right.sound (b left may).front.upto (b left may).fits
+          parts_undamaged m group_secret (stated w.sent) w.view w.chosen a (restores left).present (restores left).entries (take (b left may).count (book_left h)) (right_tame m w r.1) (left_goes m w h left r (b left may)) (b left may).fits
           (b left may).asked
           (b left may).front.entries;
       restarts = λ down.
           let s : Stopped right.all right.past h = right.lasts.down down in
           ap (λ (t : StoreState). damage_of m group_secret w.view (parts_of (restores (bytes_held t)))) s.opened
-          ∙ parts_undamaged m group_secret (stated w.sent) w.view w.chosen a (restores s.left).present (restores s.left).entries h.life.diary right.diary.sound (left_upto right.all right.past h s)
+          ∙ parts_undamaged m group_secret (stated w.sent) w.view w.chosen a (restores s.left).present (restores s.left).entries h.life.diary (right_tame m w r.1)
+          (record {
+            sound = right.diary.sound;
+            made = left_made right.all right.past h s;
+            upto = left_upto right.all right.past h s;
+            along = book-along m w h.life.diary r (each_get (HostMet (IsMet w.sent)) w.hosts i h r.0.0.hosts at).life.diary right.diary;
+          })
           (spelled-life h.life (host-fit m w i h at r).life).diary
           (is_asked m w.view w.chosen right.all (restores s.left).present right.snapshots s.asked) (left_texts right.all right.past h s);
       within = λ left may. let place = left_place m w h left a r (b left may) in let most = (b left may).right.within in omega (arith, place, most);
@@ -322,10 +343,10 @@ abbrev honest_replied : {S : Type 0} → World S → Acceptance → ℕ → Bool
 honest_replied w a member = has_replied w.faulty w.sent a member && not (is_among w.faulty member)
 
 -- restores the place, whatever is left of its devices
-honest_kept : {S : Type 0} (m : Meaning S) (w : World S) (a : Acceptance) (left : ℕ → Images) (i : ℕ) (h : Host S) → slice_get w.hosts i ≡ Some h → MayBeLeft w left → AreRestorable m w.view w.chosen → ChosenRight m w
-    → (is_member w.view h.node.id && honest_replied w a h.node.id) ≡ true → has_place m w w.view left a.place h ≡ true
-honest_kept {S = S} m w a left i h at may service r is =
-    let parts = and_true (is_member w.view h.node.id) (honest_replied w a h.node.id) is in
+honest_kept : {S : Type 0} (m : Meaning S) (w : World S) (v : View) (a : Acceptance) (left : ℕ → Images) (i : ℕ) (h : Host S) → slice_get w.hosts i ≡ Some h → MayBeLeft w left → AreRestorable m w.view w.chosen
+    → ChosenRight m w → (is_member v h.node.id && honest_replied w a h.node.id) ≡ true → has_place m w v left a.place h ≡ true
+honest_kept {S = S} m w v a left i h at may service r is =
+    let parts = and_true (is_member v h.node.id) (honest_replied w a h.node.id) is in
     let both = and_true (has_replied w.faulty w.sent a h.node.id) (not (is_among w.faulty h.node.id)) parts.1 in
     let correct : is_among w.faulty h.node.id ≡ false = not_true (is_among w.faulty h.node.id) both.1 in
     let g : Given w.sent a h.node.id = given_by w.faulty w.sent a h.node.id both.0 in
@@ -368,23 +389,116 @@ hosts_pass {S = S} p q (h ∷ hs) each = by (p h.node.id) (q h) each.0 (filter p
     by false true more ps qs le = omega (arith, le)
     by false false more ps qs le = le
 
--- where a quorum has replied, enough members of the view restore the place
-enough_kept : {S : Type 0} (m : Meaning S) (w : World S) (a : Acceptance) → AreRestorable m w.view w.chosen → ChosenRight m w → QuorumReplied w.view w.faulty w.sent a → (left : ℕ → Images) → MayBeLeft w left
-    → w.view.f < length (filter (has_place m w w.view left a.place) w.hosts)
-enough_kept {S = S} m w a service r replied left may =
+-- ---- members that have replied have hosts
+
+no_way : true ≡ false → ⊥
+no_way is = cc
+
+-- whose entries bear a content has a host
+borne_named : {S : Type 0} (hosts : List (Host S)) (id : ℕ) (x : Content) → IsBorneAt hosts id x → list_any (λ k. k == id) (names hosts) ≡ true
+borne_named [] id x there = absurd there
+borne_named (h ∷ hs) id x there =
+    elim there [
+      | inl here ↦ or_left (h.node.id == id) (list_any (λ k. k == id) (names hs)) (eq-eqb h.node.id id here.member)
+      | inr later ↦ or_right (h.node.id == id) (list_any (λ k. k == id) (names hs)) (borne_named hs id x later)
+    ]
+
+origin_named : {S : Type 0} (hosts : List (Host S)) (member : ℕ) (o : Origin) (x : Content) → IsBorne hosts o x → is_of member o ≡ true → list_any (λ k. k == member) (names hosts) ≡ true
+origin_named hosts member (origins.Node id) x borne is = subst (λ (n : ℕ). list_any (λ k. k == n) (names hosts) ≡ true) (eqb-true id member is) (borne_named hosts id x borne)
+origin_named hosts member (origins.Client id) x borne is = absurd (cc)
+origin_named hosts member origins.Script x borne is = absurd (cc)
+
+-- so a member has that has replied and is not faulty
+replier_named : {S : Type 0} (hosts : List (Host S)) (faulty : List ℕ) (sent : List Sent) (a : Acceptance) (member : ℕ) → Each (λ s. IsBorne hosts s.origin s.content) sent → is_among faulty member ≡ false
+    → has_replied faulty sent a member ≡ true → list_any (λ k. k == member) (names hosts) ≡ true
+replier_named hosts faulty [] a member borne correct is = absurd (cc)
+replier_named hosts faulty (s ∷ sent) a member borne correct is =
+    elim (or_true (is_reply_of member a s.content && (is_among faulty member || (is_of member s.origin && is_for a.request.client s.to))) (has_replied faulty sent a member) is) [
+      | inl here ↦ own_named (or_true (is_among faulty member) (is_of member s.origin && is_for a.request.client s.to) (and_true (is_reply_of member a s.content) _ here).1)
+      | inr later ↦ replier_named hosts faulty sent a member borne.1 correct later
+    ]
+  where
+    own_named : (is_among faulty member ≡ true) ⊎ ((is_of member s.origin && is_for a.request.client s.to) ≡ true) → list_any (λ k. k == member) (names hosts) ≡ true
+    own_named (inl breaks) = absurd (no_way (sym breaks ∙ correct))
+    own_named (inr own) = origin_named hosts member s.origin s.content borne.0 (and_true (is_of member s.origin) (is_for a.request.client s.to) own).0
+
+none_left : (p q : ℕ → Bool) (xs : List ℕ) → list_any p xs ≡ false → list_any p (filter q xs) ≡ false
+none_left p q [] none = refl
+none_left p q (x ∷ xs) none = let parts = or_parts (p x) (list_any p xs) none in by (q x) parts.0 (none_left p q xs parts.1)
+  where
+    by : (t : Bool) → p x ≡ false → list_any p (filter q xs) ≡ false → list_any p (cond t (x ∷ filter q xs) (filter q xs)) ≡ false
+    by true here rest = ap (λ (b : Bool). b || list_any p (filter q xs)) here ∙ rest
+    by false here rest = rest
+
+-- numbers of which none stands twice, if only some are left
+distinct_left : (q : ℕ → Bool) (xs : List ℕ) → Distinct xs → Distinct (filter q xs)
+distinct_left q [] once = tt
+distinct_left q (x ∷ xs) once = by (q x) (none_left (λ y. y == x) q xs once.0) (distinct_left q xs once.1)
+  where
+    by : (t : Bool) → list_any (λ y. y == x) (filter q xs) ≡ false → Distinct (filter q xs) → Distinct (cond t (x ∷ filter q xs) (filter q xs))
+    by true none rest = (none, rest)
+    by false none rest = rest
+
+-- what passes a test is left and passes it
+left_passes : (p : ℕ → Bool) (xs : List ℕ) (n : ℕ) → Among n (filter p xs) → p n ≡ true
+left_passes p [] n there = absurd there
+left_passes p (x ∷ xs) n there = by (p x) refl there (left_passes p xs n)
+  where
+    by : (t : Bool) → p x ≡ t → Among n (cond t (x ∷ filter p xs) (filter p xs)) → (Among n (filter p xs) → p n ≡ true) → p n ≡ true
+    by true is among later = elim among [ inl same ↦ subst (λ (y : ℕ). p y ≡ true) (sym same) is | inr rest ↦ later rest ]
+    by false is among later = later among
+
+-- Members of a view that pass a test and stand among some numbers: as many of these numbers are such members.
+members_there : (v : View) (p : ℕ → Bool) (ids : List ℕ) → Distinct v.members → ((id : ℕ) → p id ≡ true → list_any (λ k. k == id) ids ≡ true)
+    → length (filter p v.members) ≤ length (filter (λ id. is_member v id && p id) ids)
+members_there v p ids once there =
+    let group : List ℕ = filter p v.members in
+    let among : View = record { number = 0; start = 0; f = 0; members = ids } in
+    let all = all_listed among group (each_from (λ (id : ℕ). is_member among id ≡ true) group (λ id left. there id (left_passes p v.members id left))) (distinct_left p v.members once) in
+    let fewer = filter_more (is_one group) (λ id. is_member v id && p id) (λ id is. in_group id (number_among group id is)) ids in
+    omega (arith, all, fewer)
+  where
+    in_group : (id : ℕ) → Among id (filter p v.members) → (is_member v id && p id) ≡ true
+    in_group id left = and_from (is_member v id) (p id) (among_number v.members id (among_filtered p v.members id left)) (left_passes p v.members id left)
+
+-- where a quorum of a view in force has replied, enough members of it restore the place
+enough_kept : {S : Type 0} (m : Meaning S) (w : World S) (v : View) (a : Acceptance) → AreRestorable m w.view w.chosen → ChosenRight m w → SentFirm w → IsInForce w v
+    → quorum v ≤ weight_of v (filter (has_replied w.faulty w.sent a) v.members) → (left : ℕ → Images) → MayBeLeft w left → v.f < length (filter (has_place m w v left a.place) w.hosts)
+enough_kept {S = S} m w v a service r firm force replied left may =
     let p : ℕ → Bool = has_replied w.faulty w.sent a in
     let q : ℕ → Bool = is_among w.faulty in
-    let few = (few_faulty w.view w.faulty r.1.viewed (r.1.few w.view (first_in_force w))).few in
-    let more = quorum-honest w.view r.1.viewed in
-    let but = pass_but p q w.view.members in
-    let pass = hosts_pass (λ id. is_member w.view id && honest_replied w a id) (has_place m w w.view left a.place) w.hosts
-    (each_at (λ (h : Host S). (is_member w.view h.node.id && honest_replied w a h.node.id) ≡ true → has_place m w w.view left a.place h ≡ true) w.hosts (λ i h at. honest_kept m w a left i h at may service r)) in
-    let own : length (filter (λ id. is_member w.view id && honest_replied w a id) (map (λ h. h.node.id) w.hosts)) ≡ length (filter (honest_replied w a) w.view.members) =
-    ap (λ (ms : List ℕ). length ms) (sym (filter_both (is_member w.view) (honest_replied w a) (map (λ h. h.node.id) w.hosts)))
-    ∙ ap (λ (ms : List ℕ). length (filter (honest_replied w a) ms)) r.1.ids.members in
+    let viewed : is_view v ≡ true = viewed_now w v force r.1.viewed r.1.of r.1.low in
+    let few = (few_faulty v w.faulty viewed (r.1.few.each v force)).few in
+    let more = quorum-honest v viewed in
+    let but = pass_but p q v.members in
+    let pass = hosts_pass (λ id. is_member v id && honest_replied w a id) (has_place m w v left a.place) w.hosts
+    (each_at (λ (h : Host S). (is_member v h.node.id && honest_replied w a h.node.id) ≡ true → has_place m w v left a.place h ≡ true) w.hosts (λ i h at. honest_kept m w v a left i h at may service r)) in
+    let own = members_there v (honest_replied w a) (names w.hosts) (view-distinct v viewed) (λ id is. honest_named id is) in
     omega (arith, pass, own, but, few, more, replied)
+  where
+    correct_of : (b : Bool) → not b ≡ true → b ≡ false
+    correct_of true is = absurd (cc)
+    correct_of false is = refl
 
--- a place at which a quorum has replied is kept
-pub replied_kept : {S : Type 0} (m : Meaning S) (w : World S) (a : Acceptance) → AreRestorable m w.view w.chosen → ChosenRight m w → QuorumReplied w.view w.faulty w.sent a → IsKept m w a.place
-unfolding views_after
-replied_kept m w a service r replied = record { enough = λ left may. enough_kept m w a service r replied left may }
+    honest_named : (id : ℕ) → honest_replied w a id ≡ true → list_any (λ k. k == id) (names w.hosts) ≡ true
+    honest_named id is =
+        let both = and_true (has_replied w.faulty w.sent a id) (not (is_among w.faulty id)) is in
+        replier_named w.hosts w.faulty w.sent a id firm.borne (correct_of (is_among w.faulty id) both.1) both.0
+
+-- a place at which the list has a request is one of its places
+pub request_within : (list : List Batch) (place index : ℕ) (q : Request) → request_at list place index ≡ Some q → place ≤ length list
+request_within list zero index q is = omega arith
+request_within list (suc k) index q is = by (slice_get list k) refl is
+  where
+    by : (found : Option Batch) → slice_get list k ≡ found → option_and_then (λ batch. option_map (λ (x : SignedBy Request). x.statement) (slice_get batch index)) found ≡ Some q → suc k ≤ length list
+    by None at is = absurd (cc)
+    by (Some batch) at is = let within = get_within list k batch at in omega (arith, within)
+
+-- a place of the list at which a quorum has replied in its view is kept
+pub replied_kept : {S : Type 0} (m : Meaning S) (w : World S) (a : Acceptance) → AreRestorable m w.view w.chosen → ChosenRight m w → SentFirm w → QuorumReplied (views_after w.view w.chosen) w.faulty w.sent a
+    → (view_at w.view w.chosen a.place).number ≡ a.view → IsInForce w (view_at w.view w.chosen a.place) → IsKept m w a.place
+replied_kept {S = S} m w a service r firm replied same force =
+    let there : view_at w.view w.chosen a.place ≡ replied.view = numbered_at m w r.1 a.place replied.view replied.known (same ∙ replied.stated) in
+    let enough : quorum (view_at w.view w.chosen a.place) ≤ weight_of (view_at w.view w.chosen a.place) (filter (has_replied w.faulty w.sent a) (view_at w.view w.chosen a.place).members) =
+    subst (λ (v : View). quorum v ≤ weight_of v (filter (has_replied w.faulty w.sent a) v.members)) (sym there) replied.enough in
+    record { enough = λ left may. enough_kept m w (view_at w.view w.chosen a.place) a service r firm force enough left may }

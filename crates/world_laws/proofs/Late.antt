@@ -1,5 +1,5 @@
 -- The reports that a node holds in its own name are of later regencies than the entries that it restored promise, whatever comes to it.
-use Rattle.std.proofs.Common.{◌≡◌, ℕ, zero, suc, ◌+◌, ◌<◌, ◌≤◌, ◌++◌, Bool, true, false, cond, List, [], ◌∷◌, length, take, sym, subst, arith, Option, Some, None, Result, Ok, Err, refl, length-append}
+use Rattle.std.proofs.Common.{◌≡◌, ℕ, zero, suc, ◌+◌, ◌<◌, ◌≤◌, ◌++◌, Bool, true, false, cond, List, [], ◌∷◌, length, take, sym, subst, arith, Option, Some, None, Result, Ok, Err, refl, length-append, nat_le}
 use Rattle.std.proofs.lemmas.List.{take-append-le}
 use Rattle.std.specs.Prelude.{if◌then◌else◌, map, filter_map, ◌==◌, option_map}
 use Rattle.std.specs.List.{cons_option}
@@ -29,6 +29,7 @@ use Rattle.vote_book.specs.declared.entry.LogEntry.TheVariants as entries
 use Rattle.replica_rules.specs.Pools.{offered, settled}
 use Rattle.replica_rules.specs.Replicas.{delivered, is_next}
 use Rattle.replica_rules.specs.Seals.{digest_of, signed}
+use Rattle.replica_laws.proofs.Entered.{each-telling}
 use Rattle.agreement_laws.specs.Statements.{own}
 use Rattle.node_rules.specs.Transfers.{answers_state, decided_at, follow_plan, gives_parts, install_by, install_fetch, install_replica, installed_by, installing, installs, is_of_group, is_shown_place, keeps_over, offer_for, offered_marks, offers_state, part_messages, places_after, planning, plans, shown_after, shown_as, shown_at, spoil}
 use Rattle.state_transfer.specs.Fetches.{finished}
@@ -41,10 +42,10 @@ use Rattle.transfer_form.specs.declared.transfer.StatePart.{StatePart}
 use Rattle.node_rules.specs.declared.node.OwnSnapshot.{OwnSnapshot}
 use Rattle.agreement_laws.specs.Statements as says
 use Rattle.agreement_laws.proofs.Lists.{either, each_end}
-use Rattle.node_rules.specs.Nodes.{Node, view_of, regency_of, greatest_regency, open_slot, holding, holding_all, recording}
+use Rattle.node_rules.specs.Nodes.{Node, view_of, regency_of, greatest_regency, open_slot, holding, holding_all, recording, enters, stays_in_view, telling}
 use Rattle.node_rules.specs.Arrivals.{kept, noted}
 use Rattle.node_rules.specs.Marks.{firm_at, mark_of, mark_place}
-use Rattle.node_rules.specs.Rules.{reply_of, lines_to_answer, replying, deliver_batch, delivers, proposing, propose_batch, proposes, ballot, writing, write_batch, writes, accepting, accept_batch, accepts, deciding, decide_batch, decides, answering, answer_line, answers_again}
+use Rattle.node_rules.specs.Rules.{reply_of, lines_to_answer, replying, deliver_batch, delivers, proposing, propose_batch, proposes, ballot, writing, write_batch, writes, accepting, accept_batch, accepts, deciding, decide_batch, decides, replies_with, answering, answer_line, answers_again}
 use Rattle.node_rules.specs.Votes.{certificate_votes}
 use Rattle.node_rules.specs.Changes.{report_of, reported_by, start_by_sync, promised_for, adopts_by, adoption, adopts, wish_of, asks_next, joining, joins, next_promise, promising, promise_next, promises, leading, lead_with, leads, timing, passes_on, presses, times, asks_state, lags, state_ask}
 use Rattle.node_rules.specs.Steps.{step_of, released}
@@ -211,10 +212,16 @@ late-times {S = S} n is =
     (either (λ (x : Node S). HeldLate x) n.impatient (asks_next n) (passes_on (record n { impatient = true }) n.pool) (late-asks_next n is)
     (late-passes_on (record n { impatient = true }) n.pool (record { few = is.few; late = is.late }))) is)
 
+-- a view that is told is no report
+late-telling : {S : Type 0} (n : Node S) (known : Bool) (to : Target) → HeldLate n → HeldLate (telling known to n)
+late-telling n known to is =
+    record { few = is.few; late = each-telling (λ (h : Held). AllPast (take n.restored n.entries) h.message) n known to is.late (λ new. (tt, tt)) }
+
 late-answer_line : {S : Type 0} (n : Node S) (line : Option Execution) → HeldLate n → HeldLate (answer_line n line)
 unfolding answer_line
 late-answer_line n None is = is
-late-answer_line n (Some line) is = late-holding n (targets.Client line.client) (reply_of n.secret n.id line) (tt, tt) is
+late-answer_line n (Some line) is =
+    late-telling (replies_with n line) (nat_le (length n.replica.views) 1) (targets.Client line.client) (late-holding n (targets.Client line.client) (reply_of n.secret n.id line) (tt, tt) is)
 
 late-answers_again : {S : Type 0} (n : Node S) (asked : Asked) → HeldLate n → HeldLate (answers_again n asked)
 unfolding answers_again
@@ -228,9 +235,10 @@ late-replying n (l ∷ ls) is =
 late-deliver_batch : {S : Type 0} (m : Meaning S) (n : Node S) (batch : Option Batch) → HeldLate n → HeldLate (deliver_batch m n batch)
 unfolding deliver_batch
 late-deliver_batch m n None is = is
-late-deliver_batch m n (Some batch) is =
-    late-replying (record n { replica = delivered m n.replica batch; waiting = None; pool = settled (delivered m n.replica batch).table n.pool; impatient = false }) (lines_to_answer m n batch)
-    (record { few = is.few; late = is.late })
+late-deliver_batch {S = S} m n (Some batch) is =
+    let x : Node S = enters n (record n { replica = delivered m n.replica batch; waiting = None; pool = settled (delivered m n.replica batch).table n.pool; impatient = false }) in
+    let y : Node S = replying x (lines_to_answer m n batch) in
+    late-telling y (stays_in_view n y) targets.Clients (late-replying x (lines_to_answer m n batch) (record { few = is.few; late = is.late }))
 
 late-delivers : {S : Type 0} (m : Meaning S) (n : Node S) → HeldLate n → HeldLate (delivers m n)
 unfolding delivers
@@ -308,7 +316,7 @@ late-install_by {S = S} n f (Ok r) is = by (is_of_group n r) refl
     by true of =
         let e : LogEntry = installed_by f.plan in
         let more = late-more n (e ∷ []) is in
-        let x : Node S = keeps_over (record (recording n e) { replica = r; pool = settled r.table n.pool; fetch = None }) f in
+        let x : Node S = keeps_over (enters n (record (recording n e) { replica = r; pool = settled r.table n.pool; fetch = None })) f in
         late-holding x targets.View (state_ask x 0) tt (record { few = more.few; late = more.late })
     by false of = record { few = is.few; late = is.late }
 

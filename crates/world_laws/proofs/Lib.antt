@@ -12,7 +12,8 @@ pub mod Additions
 pub mod Late
 pub mod CutSources
 pub mod Wholes
-pub mod OneViews
+pub mod ListViews
+pub mod Listed
 pub mod InForce
 pub mod Given
 pub mod Asks
@@ -43,6 +44,8 @@ pub mod Chosen
 pub mod ChosenLives
 pub mod ChosenSteps
 pub mod ChosenKept
+pub mod ToldViews
+pub mod ClientViews
 pub mod Asked
 pub mod Views
 pub mod Borne
@@ -59,5 +62,6 @@ pub mod ClientNames
 pub mod Growing
 pub mod Teaching
 pub mod Resumed
+pub mod Addressed
 pub mod OneListLaw
 pub mod Alone

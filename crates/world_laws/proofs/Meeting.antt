@@ -7,23 +7,46 @@ use Rattle.smart_keys.specs.Keys.{digest}
 use Rattle.vote_book.specs.Books.{Among}
 use Rattle.vote_book.proofs.Tested.{passing, same_bytes_is}
 use Rattle.agreement_laws.proofs.Lists.{among_left, among_right, among_either, either, either_by, not_false}
-use Rattle.world_rules.specs.Premises.{met, clash, texts_met, newly_met, marked_with, all_marked}
-use Rattle.world_rules.specs.Worlds.{ending_with, all_ending}
+use Rattle.smart_base.specs.Views.{View}
+use Rattle.smart_statements.specs.Batches.{Batch}
+use Rattle.replica_rules.specs.Replicas.{views_after}
+use Rattle.world_rules.specs.Premises.{met, clash, texts_met, newly_met, marked_with, all_marked, too_many_in}
+use Rattle.world_rules.specs.Worlds.{breaking, ending_few, ending_with, all_ending}
 use Rattle.world_rules.specs.declared.message.Ending.{Ending}
-use Rattle.world_rules.specs.declared.message.Ending.TheVariants.{Premise}
-use Rattle.world_rules.specs.declared.message.Premise.TheVariants.{Collision}
+use Rattle.world_rules.specs.declared.message.Ending.TheVariants.{Limit, Premise}
+use Rattle.world_rules.specs.declared.message.Premise as premises
+use Rattle.world_rules.specs.declared.message.Premise.TheVariants.{Collision, TooManyFaulty}
 use Rattle.world_rules.specs.declared.message.Sent.{Sent}
 
+-- a play in which a premise is broken has ended
+pub broken : (premise : premises.Premise) (ending : Option Ending) → breaking premise ending ≡ None → ⊥
+broken premise None none = cc
+broken premise (Some Limit) none = cc
+broken premise (Some (Premise first)) none = cc
+
+unbroken : (t : Bool) (premise : premises.Premise) (ending : Option Ending) → cond t (breaking premise ending) ending ≡ None → (t ≡ false) × (ending ≡ None)
+unbroken true premise ending none = absurd (broken premise ending none)
+unbroken false premise ending none = (refl, none)
+
 -- a play that goes on where a text is met has not clashed there, and went on before
-unclashed : (clashes : Bool) (ending : Option Ending) → cond clashes (Some (Premise Collision)) ending ≡ None → (clashes ≡ false) × (ending ≡ None)
-unclashed true ending none = absurd (cc)
-unclashed false ending none = (refl, none)
+unclashed : (clashes : Bool) (ending : Option Ending) → cond clashes (breaking Collision ending) ending ≡ None → (clashes ≡ false) × (ending ≡ None)
+unclashed clashes ending none = unbroken clashes Collision ending none
+
+-- a play that goes on where the chosen list grew went on before, and few of each of its views are faulty
+pub few-goes_on : (view : View) (chosen : List Batch) (faulty : List ℕ) (ending : Option Ending) → ending_few view chosen faulty ending ≡ None → (too_many_in (views_after view chosen) faulty ≡ false) × (ending ≡ None)
+few-goes_on view chosen faulty ending none = unbroken (too_many_in (views_after view chosen) faulty) TooManyFaulty ending none
 
 -- a play that goes on where snapshots are met went on before
 pub met-goes_on : (sent : List Sent) (marked : List (List ℕ)) (ending : Option Ending) (snapshots : List (List ℕ)) → all_ending sent marked ending snapshots ≡ None → ending ≡ None
 met-goes_on sent marked ending [] on = on
 met-goes_on sent marked ending (s ∷ ss) on =
     (unclashed (list_any (clash s) (texts_met sent marked)) ending (met-goes_on sent (marked_with sent marked s) (ending_with sent marked ending s) ss on)).1
+
+-- a play that goes on behind a step went on before it
+pub step-goes_on : (view : View) (chosen : List Batch) (faulty : List ℕ) (sent : List Sent) (marked : List (List ℕ)) (ending : Option Ending) (snapshots : List (List ℕ))
+    → all_ending sent marked (ending_few view chosen faulty ending) snapshots ≡ None → ending ≡ None
+step-goes_on view chosen faulty sent marked ending snapshots on =
+    (few-goes_on view chosen faulty ending (met-goes_on sent marked (ending_few view chosen faulty ending) snapshots on)).1
 
 -- what one of several passes not, none of them that is there does
 none_passes : (p : List ℕ → Bool) (ts : List (List ℕ)) (t : List ℕ) → list_any p ts ≡ false → Among t ts → p t ≡ false

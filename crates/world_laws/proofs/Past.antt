@@ -1,33 +1,31 @@
 -- A client's requests state all that it knew before it asked.
 use Rattle.std.proofs.Common.{◌≡◌, ℕ, zero, suc, ◌≤◌, ◌++◌, List, [], ◌∷◌, refl, ap, sym, Option, Some, None, inl, inr, ◌⊎◌, subst, arith, append-nil, take, ◌∙◌}
-use Rattle.node_rules.specs.Nodes.{view_of}
+use Rattle.smart_statements.specs.Batches.{Batch}
+use Rattle.node_rules.specs.Nodes.{view_of, next_place}
 use Rattle.std.specs.Prelude.{slice_get, slice_set}
 use Rattle.std.specs.List.{flat_map}
 use Rattle.smart_base.specs.Lists.{Each}
-use Rattle.smart_base.specs.Views.{View}
-use Rattle.smart_statements.specs.Forms.{SignedBy}
 use Rattle.smart_statements.specs.declared.statement.Request.{Request}
-use Rattle.smart_statements.specs.declared.statement.Answer.{Answer}
 use Rattle.smart_service.specs.Services.{Meaning}
 use Rattle.node_rules.specs.Steps.{Outcome, leaving}
-use Rattle.client_quorum.specs.Clients.{request_of, asking, learning, after_heard}
+use Rattle.client_quorum.specs.Clients.{request_of, asking, learning}
 use Rattle.client_quorum.specs.declared.client.Client.{Client}
+use Rattle.client_quorum.specs.declared.client.Word.{Word}
 use Rattle.client_quorum.specs.declared.client.Acceptance.{Acceptance}
 use Rattle.client_quorum.specs.declared.client.Heard.{Heard}
-use Rattle.client_quorum.specs.declared.client.Heard.TheVariants as hears
-use Rattle.world_rules.specs.Clients.{heard}
+use Rattle.world_rules.specs.Clients.{heard_word}
 use Rattle.world_rules.specs.Knowing.{known_by}
 use Rattle.world_laws.specs.Promises.{HasAsked, IsPast, world_at}
-use Rattle.world_rules.specs.Worlds.{Course, course_of, Host, World, posts, all_ending, snapshot_in, stepped, acceptance_in, hearing, begun}
+use Rattle.world_rules.specs.Worlds.{Course, course_of, Host, World, posts, all_ending, snapshot_in, stepped, acceptance_in, hearing, begun, chosen_with, ending_few}
 use Rattle.world_rules.specs.Plays.{rested, world_after, lines_told}
 use Rattle.world_rules.specs.declared.line.Line.{Line}
 use Rattle.world_rules.specs.declared.line.OutLine.{OutLine}
 use Rattle.world_rules.specs.declared.message.Ending.{Ending}
 use Rattle.world_rules.specs.declared.message.Sent.{Sent}
 use Rattle.world_laws.proofs.Numbered.{EachAt, each_at_get, each_at_weaker, each_at_set, each_at_both}
-use Rattle.world_laws.proofs.Meeting.{met-goes_on}
+use Rattle.world_laws.proofs.Meeting.{met-goes_on, step-goes_on}
 use Rattle.world_laws.proofs.Keeps.{ask_of, asked_by, by-posts-ended, KeepsAll, KeepsLives, keeps-world_after, live-world_after, signed_by, from_node, from_client, from_script, keeps-sends_all}
-use Rattle.world_laws.proofs.Hearing.{Accepts, accepts_waiting}
+use Rattle.world_laws.proofs.Hearing.{Accepts, Does, word_does}
 use Rattle.world_laws.proofs.Asks.{asked_grows}
 use Rattle.world_laws.proofs.Asking.{ClientRight, ClientsRight, keeps-right, rested-right, right-after}
 use Rattle.world_laws.proofs.Grows.{world_after-append}
@@ -35,6 +33,7 @@ use Rattle.world_laws.proofs.Seen.{id_at, seen-told}
 use Rattle.agreement_laws.proofs.Lists.{some_equal, each_end}
 use Rattle.smart_base.proofs.ViewFacts.{each-weaken}
 use Rattle.world_rules.specs.declared.line.Header.{Header}
+use Rattle.client_quorum.specs.Readings.{after_word}
 
 -- what was sent stays
 
@@ -42,10 +41,10 @@ use Rattle.world_rules.specs.declared.line.Header.{Header}
 asked-stepped : {S : Type 0} (course : Course S) (w : World S) (i : ℕ) (h : Host S) (o : Outcome S) (q : Request) → HasAsked w.sent q → HasAsked (stepped course w i h o).sent q
 unfolding stepped
 asked-stepped {S = S} course w i h o q asked =
-    keeps-sends_all (λ (v : World S). HasAsked v.sent q) h.node.id (view_of o.node) (λ v held asked. asked_grows v (from_node h.node.id (view_of o.node) held) q asked) _ (leaving o.node.firm o.node.held) asked
+    keeps-sends_all (λ (v : World S). HasAsked v.sent q) h.node.id (view_of o.node) (λ v held asked. asked_grows v (from_node v h.node.id (view_of o.node) held) q asked) _ (leaving o.node.firm o.node.held) asked
 
 -- a client hears
-asked-hearing : {S : Type 0} (w : World S) (i : ℕ) (c : Client) (a : SignedBy Answer) (h : Heard) (q : Request) → HasAsked w.sent q → HasAsked (hearing w i c a h).sent q
+asked-hearing : {S : Type 0} (w : World S) (i : ℕ) (c : Client) (a : Word) (h : Heard) (q : Request) → HasAsked w.sent q → HasAsked (hearing w i c a h).sent q
 unfolding hearing
 asked-hearing w i c a h q asked = asked
 
@@ -57,9 +56,9 @@ keeps-sent course q =
         event = λ w i h event up at may asked. asked-stepped course w i h (course.step h.node event) q asked;
         disk = λ w i h up at asked. asked;
         crash = λ w i h left up at may asked. asked;
-        hear = λ w i c x a at has read asked. asked-hearing w i c a (heard w.view c a) q asked;
-        ask = λ w i c op at free few brief asked. asked_grows (asked_by w i c op) (from_client w.view c (ask_of c op)) q asked;
-        again = λ w i c r at waits asked. asked_grows w (from_client w.view c (signed_by c r)) q asked;
+        hear = λ w i c x a on at has read asked. asked-hearing w i c a (heard_word c a) q asked;
+        ask = λ w i c op at free few brief asked. asked_grows (asked_by w i c op) (from_client c (ask_of c op)) q asked;
+        again = λ w i c r at waits asked. asked_grows w (from_client c (signed_by c r)) q asked;
         learn = λ w i j c d at other asked. asked;
         inject = λ w x read fine asked. asked_grows w (from_script x) q asked;
         declare = λ w faulty rogue ending how asked. asked;
@@ -103,11 +102,12 @@ past-stepped : {S : Type 0} (course : Course S) (before : List Sent) (known : �
 unfolding stepped
 past-stepped {S = S} course before known w i h o is =
     let snapshots : List (List ℕ) = flat_map snapshot_in o.fired in
-    let ended : Option Ending = all_ending w.sent w.marked w.ending snapshots in
-    keeps-sends_all (λ (v : World S). AllPast before known v) h.node.id (view_of o.node) (λ v held past. past-posts before known v (from_node h.node.id (view_of o.node) held) past) _ (leaving o.node.firm o.node.held)
+    let more : List Batch = chosen_with w.chosen (next_place o.node) o.node.waiting in
+    let ended : Option Ending = all_ending w.sent w.marked (ending_few w.view more w.faulty w.ending) snapshots in
+    keeps-sends_all (λ (v : World S). AllPast before known v) h.node.id (view_of o.node) (λ v held past. past-posts before known v (from_node v h.node.id (view_of o.node) held) past) _ (leaving o.node.firm o.node.held)
     (record {
       each = each_at_weaker (ClientPast before known w.ending) (ClientPast before known ended)
-          (λ i c past. record { seen = past.seen; waits = λ q waits on. past.waits q waits (met-goes_on w.sent w.marked w.ending snapshots on) }) w.clients is.each;
+          (λ i c past. record { seen = past.seen; waits = λ q waits on. past.waits q waits (step-goes_on w.view more w.faulty w.sent w.marked w.ending snapshots on) }) w.clients is.each;
       accepted = is.accepted;
     })
 
@@ -130,31 +130,35 @@ past-asked before known w i c op at id is =
 
 -- a client hears a reply: what it accepts is one to its request that waits
 
-past-taken : (before : List Sent) (known : ℕ → ℕ) (accepted : List Acceptance) (v : View) (i : ℕ) (c : Client) (a : SignedBy Answer) (h : Heard) (ending : Option Ending) → ending ≡ None → heard v c a ≡ h
+past-taken : (before : List Sent) (known : ℕ → ℕ) (accepted : List Acceptance) (i : ℕ) (c : Client) (word : Word) (h : Heard) (after : Client) (ending : Option Ending) → ending ≡ None → Does c word h after
     → ClientPast before known ending i c → Each (λ b. States before known b.request) accepted → Each (λ b. States before known b.request) (accepted ++ acceptance_in h)
-past-taken before known accepted v i c a (hears.Counted count need) ending on is_h own is = rw append-nil is
-past-taken before known accepted v i c a (hears.Ignored why) ending on is_h own is = rw append-nil is
-past-taken before known accepted v i c a (hears.Accepted acc) ending on is_h own is =
-    let taken : Accepts v c a acc = accepts_waiting v c a acc is_h in
-    each_end (λ (b : Acceptance). States before known b.request) accepted acc is
-    (subst (λ (b : Acceptance). States before known b.request) (sym taken.is) (own.waits taken.request taken.counts.waits on))
+past-taken before known accepted i c word h after ending on (inl stays) own is =
+    subst (λ (more : List Acceptance). Each (λ b. States before known b.request) (accepted ++ more)) (sym stays.none) (rw append-nil is)
+past-taken before known accepted i c word h after ending on (inr takes) own is =
+    let taken : Accepts c takes.reply takes.acceptance = takes.accepts in
+    subst (λ (h : Heard). Each (λ b. States before known b.request) (accepted ++ acceptance_in h)) (sym takes.heard_is)
+    (each_end (λ (b : Acceptance). States before known b.request) accepted takes.acceptance is
+    (subst (λ (b : Acceptance). States before known b.request) (sym taken.is) (own.waits taken.request taken.counts.waits on)))
 
-past-client : (before : List Sent) (known : ℕ → ℕ) (ending : Option Ending) (i : ℕ) (c : Client) (a : SignedBy Answer) (h : Heard) → ClientPast before known ending i c → ClientPast before known ending i (after_heard c a h)
-past-client before known ending i c a (hears.Counted count need) own = record { seen = own.seen; waits = own.waits }
-past-client before known ending i c a (hears.Ignored why) own = own
-past-client before known ending i c a (hears.Accepted acc) own = record { seen = omega (arith, own.seen); waits = λ q waits. absurd (no_request q waits) }
+past-client : (before : List Sent) (known : ℕ → ℕ) (ending : Option Ending) (i : ℕ) (c : Client) (word : Word) (h : Heard) (after : Client) → Does c word h after → ClientPast before known ending i c
+    → ClientPast before known ending i after
+past-client before known ending i c word h after (inl stays) own = subst (ClientPast before known ending i) (sym stays.next) (record { seen = own.seen; waits = own.waits })
+past-client before known ending i c word h after (inr takes) own =
+    subst (ClientPast before known ending i) (sym takes.next) (record { seen = omega (arith, own.seen); waits = λ q waits. absurd (no_request q waits) })
   where
     no_request : (r : Request) → None ≡ Some r → ⊥
     no_request r same = cc
 
-past-hearing : {S : Type 0} (before : List Sent) (known : ℕ → ℕ) (w : World S) (i : ℕ) (c : Client) (a : SignedBy Answer) → w.ending ≡ None → slice_get w.clients i ≡ Some c → AllPast before known w
-    → AllPast before known (hearing w i c a (heard w.view c a))
+past-hearing : {S : Type 0} (before : List Sent) (known : ℕ → ℕ) (w : World S) (i : ℕ) (c : Client) (a : Word) → w.ending ≡ None → slice_get w.clients i ≡ Some c → AllPast before known w
+    → AllPast before known (hearing w i c a (heard_word c a))
 unfolding hearing
 past-hearing before known w i c a on at is =
     let own : ClientPast before known w.ending i c = each_at_get (ClientPast before known w.ending) w.clients i c is.each at in
+    let after : Client = after_word c a (heard_word c a) in
+    let does = word_does c a in
     record {
-      each = past-set before known w.ending w.clients i (after_heard c a (heard w.view c a)) is.each (past-client before known w.ending i c a (heard w.view c a) own);
-      accepted = past-taken before known w.accepted w.view i c a (heard w.view c a) w.ending on refl own is.accepted;
+      each = past-set before known w.ending w.clients i after is.each (past-client before known w.ending i c a (heard_word c a) after does own);
+      accepted = past-taken before known w.accepted i c a (heard_word c a) after w.ending on does own is.accepted;
     }
 
 -- a client learns of a place
@@ -182,9 +186,9 @@ keeps-stating course before known =
         hear = λ w i c x a on at has read is. (k.live.hear w i c x a on at has read is.0, past-hearing before known w i c a on at is.1);
         ask = λ w i c op on at free few brief is. (
           k.live.ask w i c op on at free few brief is.0,
-          past-posts before known (asked_by w i c op) (from_client w.view c (ask_of c op)) (past-asked before known w i c op at (id_at w i c at is.0) is.1),
+          past-posts before known (asked_by w i c op) (from_client c (ask_of c op)) (past-asked before known w i c op at (id_at w i c at is.0) is.1),
         );
-        again = λ w i c q on at waits is. (k.live.again w i c q on at waits is.0, past-posts before known w (from_client w.view c (signed_by c q)) is.1);
+        again = λ w i c q on at waits is. (k.live.again w i c q on at waits is.0, past-posts before known w (from_client c (signed_by c q)) is.1);
         learn = λ w i j c d on at other is. (k.live.learn w i j c d on at other is.0, record { each = past-learned before known w i c d.seen at is.1; accepted = is.1.accepted });
         inject = λ w x on read fine is. (k.live.inject w x on read fine is.0, past-posts before known w (from_script x) is.1);
         declare = λ w faulty rogue ending on how is. (

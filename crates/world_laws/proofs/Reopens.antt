@@ -1,4 +1,5 @@
 -- A node that goes on after a crash: it delivers in order, what it holds has a spelling, and what it will send rests on its book.
+use Rattle.node_laws.proofs.ListedViews.{present_there}
 use Rattle.std.proofs.Common.{◌≡◌, ap, zero, suc, ℕ, ◌^◌, ◌<◌, ◌==◌, true, false, List, [], ◌∷◌, Option, Some, None, length, arith, subst, sym, refl, ◌++◌, take}
 use Rattle.smart_base.specs.Lists.{Each}
 use Rattle.smart_base.specs.Views.{View, is_view, present}
@@ -10,7 +11,7 @@ use Rattle.vote_book.specs.declared.entry.LogEntry.{LogEntry}
 use Rattle.vote_book.specs.declared.entry.LogEntry.TheVariants.{Opened, Wrote, Accepted, Promised, Synced, Decided, Installed, Marked}
 use Rattle.replica_rules.specs.Replicas.{empty, state, views_after}
 use Rattle.agreement_laws.specs.Statements.{Statement}
-use Rattle.node_rules.specs.Nodes.{Node, regency_in, greatest_regency, regency_of}
+use Rattle.node_rules.specs.Nodes.{Node, regency_in, greatest_regency}
 use Rattle.node_rules.specs.Reopening.{entries_in, reopened, outset_from, reopened_from}
 use Rattle.node_rules.specs.declared.node.Parts.{Parts}
 use Rattle.node_rules.specs.Steps.{Outset, opened, outset}
@@ -18,14 +19,14 @@ use Rattle.node_laws.proofs.Reopened.{reopened_is}
 use Rattle.node_laws.proofs.Cuts.{cut_each, cut_reopened}
 use Rattle.node_laws.specs.Restoring.{outset_behind, AreAlong, resumed_node}
 use Rattle.book_laws.specs.BookCuts.{cut_at, InstallUpTo}
-use Rattle.vote_book.specs.Books.{HasMade, last_made}
+use Rattle.vote_book.specs.Books.{HasMade, last_made, Among}
 use Rattle.node_laws.specs.Restored.{IsSoundBook}
 use Rattle.replica_laws.proofs.FitNodes.{FitNode, fit-as, FitsSnapshot, read-lines}
 use Rattle.replica_laws.proofs.Small.{IsBrief, small-fits}
 use Rattle.replica_laws.proofs.FitNodes as nodes
 use Rattle.replica_laws.proofs.FitBooks.{FitBook, spelled-opened}
-use Rattle.agreement_laws.proofs.Lists.{either, each_take}
-use Rattle.replica_rules.proofs.Places.{state_views}
+use Rattle.agreement_laws.proofs.Lists.{either, each_take, each_among}
+use Rattle.replica_rules.proofs.Managed.{state_views}
 use Rattle.node_rules.specs.declared.node.OwnSnapshot.{OwnSnapshot}
 use Rattle.snapshot_form.proofs.Executed.{fits_after, fits_empty}
 use Rattle.snapshot_form.specs.Replicas.{FitsReplica, IsOfClients, is_first_view}
@@ -113,18 +114,18 @@ behind_replica {S = S} m secret id stated view period place batches checkpoint (
 behind_fits : {S : Type 0} (secret : List ℕ) (m : Meaning S) → IsBrief m → (id : ℕ) (view : View) (period place : ℕ) (batches : List Batch) (checkpoint : Option OwnSnapshot) (es : List LogEntry) → IsSigner 1 id
     → is_view view ≡ true → is_first_view view ≡ true → length batches < 2 ^ 63 → Each IsOfClients batches → IfSome checkpoint FitsSnapshot → Each (nodes.FitsEntry secret) es → Each FitsEntry es
     → FitNode m secret (resumed_node m secret id view period place batches checkpoint es)
-unfolding regency_of views_after
 behind_fits secret m brief id view period place batches checkpoint es named viewed begins few of own kept spelled =
     let bs : List Batch = take (last_made es) batches in
     let less = length-take (last_made es) batches in
     let small = small-fits m (state m view bs) (state-fits m brief view bs viewed begins (omega (arith, few, less)) (each_take IsOfClients (last_made es) batches of)) in
-    let vs : (state m view bs).views ≡ view ∷ [] = state_views m view bs in
+    let there : Among (present (state m view bs).views) (state m view bs).views =
+    subst (λ (xs : List View). Among (present xs) xs) (sym (state_views m view bs)) (present_there view bs) in
     record {
       named = named;
       shared = refl;
-      view = subst (λ (xs : List View). is_view (present xs) ≡ true) (sym vs) viewed;
+      view = each_among (λ v. is_view v ≡ true) (state m view bs).views (present (state m view bs).views) small.views_fit there;
       views = small.views_fit;
-      regency = regency-fits (present (state m view bs).views).number (cut_at place es) (cut_each FitsEntry place es spelled);
+      regency = λ v. regency-fits v (cut_at place es) (cut_each FitsEntry place es spelled);
       lines = read-lines m (state m view bs) small;
       pool = tt;
       arrivals = tt;

@@ -14,9 +14,10 @@ use Rattle.node_rules.specs.Steps.{Outcome, step_of, leaving}
 use Rattle.node_rules.specs.Reopening.{reopened_from}
 use Rattle.node_rules.specs.declared.node.Held.{Held}
 use Rattle.world_rules.specs.Secrets.{group_secret}
-use Rattle.world_rules.specs.Clients.{heard}
+use Rattle.world_rules.specs.Clients.{heard_word}
 use Rattle.world_rules.specs.Worlds.{Course, course_of, Host, World, posts, sends_all, chosen_with, host_after, host_crashed, host_resumed, stepped, hearing, hosts_from, begun, parts_held, new_host}
 use Rattle.client_quorum.specs.declared.client.Client.{Client}
+use Rattle.client_quorum.specs.declared.client.Word.{Word}
 use Rattle.client_quorum.specs.declared.client.Heard.{Heard}
 use Rattle.world_rules.specs.declared.message.Origin.{Origin}
 use Rattle.world_rules.specs.declared.message.Origin.TheVariants as origins
@@ -93,11 +94,11 @@ same_list-posts {S = S} m w s x right = by-posts (λ (v : World S). ReplyRight m
 right-sends_all : {S : Type 0} (m : Meaning S) (id : ℕ) (view : View) (w : World S) (held : List Held) → Each (λ h. ReplyRight m w.view w.chosen h.message) held → RepliesRight m w → RepliesRight m (sends_all id view w held)
 right-sends_all m id view w [] each r = r
 right-sends_all {S = S} m id view w (h ∷ hs) each r =
-    let next : World S = posts w (from_node id view h) in
+    let next : World S = posts w (from_node w id view h) in
     right-sends_all m id view next hs
     (each-weaken (λ (x : Held). ReplyRight m w.view w.chosen x.message) (λ (x : Held). ReplyRight m next.view next.chosen x.message)
-    (λ x. same_list-posts m w (from_node id view h) x.message) hs each.1)
-    (right-posts m w (from_node id view h) each.0 r)
+    (λ x. same_list-posts m w (from_node w id view h) x.message) hs each.1)
+    (right-posts m w (from_node w id view h) each.0 r)
 
 -- events of a world
 
@@ -132,7 +133,7 @@ step-world : {S : Type 0} (course : Course S) (w : World S) (i : ℕ) (h : Host 
 unfolding stepped
 step-world {S = S} course w i h o =
     keeps-sends_all (λ (v : World S). (v.hosts ≡ slice_set w.hosts i (host_after course h o)) × (v.view ≡ w.view) × (v.chosen ≡ list_after w o)) h.node.id (view_of o.node)
-    (λ v held is. by-posts (λ (u : World S). (u.hosts ≡ slice_set w.hosts i (host_after course h o)) × (u.view ≡ w.view) × (u.chosen ≡ list_after w o)) v (from_node h.node.id (view_of o.node) held) (λ ending. is) (λ free room. is))
+    (λ v held is. by-posts (λ (u : World S). (u.hosts ≡ slice_set w.hosts i (host_after course h o)) × (u.view ≡ w.view) × (u.chosen ≡ list_after w o)) v (from_node v h.node.id (view_of o.node) held) (λ ending. is) (λ free room. is))
     _ (leaving o.node.firm o.node.held) (refl, refl, refl)
 
 -- the host that took the step stands along the list
@@ -166,7 +167,7 @@ held-after {S = S} m w i h event at before after held =
     (table_lines m w.view (list_after w o) (host_after (course_of m) h o).node stands) (held-longer m w o h.node.held held)
 
 -- a client that hears sends nothing
-right-hearing : {S : Type 0} (m : Meaning S) (w : World S) (i : ℕ) (c : Client) (a : SignedBy Answer) (h : Heard) → RepliesRight m w → RepliesRight m (hearing w i c a h)
+right-hearing : {S : Type 0} (m : Meaning S) (w : World S) (i : ℕ) (c : Client) (a : Word) (h : Heard) → RepliesRight m w → RepliesRight m (hearing w i c a h)
 unfolding hearing
 right-hearing m w i c a h r = record { sent = r.sent; held = r.held }
 
@@ -196,13 +197,13 @@ keeps-replies {S = S} m P k aligned =
             );
         disk = λ w i h up at p. (k.kept.disk w i h up at p.0, right-host m w i (after_call (course_of m) h) (held-at m w i h at p.1) p.1);
         crash = λ w i h left up at may p. (k.kept.crash w i h left up at may p.0, right-host m w i (host_crashed (course_of m) h left) (held-at m w i h at p.1) p.1);
-        hear = λ w i c x a at has read p. (k.kept.hear w i c x a at has read p.0, right-hearing m w i c a (heard w.view c a) p.1);
+        hear = λ w i c x a on at has read p. (k.kept.hear w i c x a on at has read p.0, right-hearing m w i c a (heard_word c a) p.1);
         ask = λ w i c op at free few brief p. (
           k.kept.ask w i c op at free few brief p.0,
-          right-posts m (asked_by w i c op) (from_client w.view c (ask_of c op)) tt
+          right-posts m (asked_by w i c op) (from_client c (ask_of c op)) tt
               (record { sent = p.1.sent; held = p.1.held }),
         );
-        again = λ w i c q at waits p. (k.kept.again w i c q at waits p.0, right-posts m w (from_client w.view c (signed_by c q)) tt p.1);
+        again = λ w i c q at waits p. (k.kept.again w i c q at waits p.0, right-posts m w (from_client c (signed_by c q)) tt p.1);
         learn = λ w i j c d at other p. (k.kept.learn w i j c d at other p.0, record { sent = p.1.sent; held = p.1.held });
         inject = λ w x read fine p. (k.kept.inject w x read fine p.0, right-posts m w (from_script x) tt p.1);
         declare = λ w faulty rogue ending how p. (k.kept.declare w faulty rogue ending how p.0, record { sent = p.1.sent; held = p.1.held });

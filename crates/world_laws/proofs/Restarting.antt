@@ -5,8 +5,6 @@ use Rattle.std.specs.List.{flat_map, list_any}
 use Rattle.smart_base.specs.Lists.{Each}
 use Rattle.smart_base.specs.Views.{View}
 use Rattle.smart_base.proofs.ViewFacts.{each-weaken}
-use Rattle.smart_statements.specs.Forms.{SignedBy}
-use Rattle.smart_statements.specs.declared.statement.Answer.{Answer}
 use Rattle.smart_statements.specs.declared.entry.NodeEvent.{NodeEvent}
 use Rattle.smart_service.specs.Services.{Meaning}
 use Rattle.node_rules.specs.Nodes.{Node, view_of}
@@ -16,10 +14,11 @@ use Rattle.node_rules.specs.declared.node.Why.{Why}
 use Rattle.node_rules.specs.declared.node.Fired.{Fired}
 use Rattle.node_rules.specs.declared.node.Fired.TheVariants as fires
 use Rattle.world_rules.specs.Secrets.{group_secret}
-use Rattle.world_rules.specs.Clients.{heard}
+use Rattle.world_rules.specs.Clients.{heard_word}
 use Rattle.world_rules.specs.Worlds.{course_of, Host, World, posts, segment_of, told_drop, told_fired, told_heard, host_after, host_crashed, host_resumed, stepped, hearing, begun, hosts_from, parts_held, new_host}
 use Rattle.world_rules.specs.Plays.{line_played, rested, world_after, lines_told}
 use Rattle.client_quorum.specs.declared.client.Client.{Client}
+use Rattle.client_quorum.specs.declared.client.Word.{Word}
 use Rattle.client_quorum.specs.declared.client.Heard.{Heard}
 use Rattle.client_quorum.specs.declared.client.Heard.TheVariants as hears
 use Rattle.world_rules.specs.declared.line.Line.{Line}
@@ -61,11 +60,14 @@ aside_still (outs.Sent number origin summary) aside = λ id r. refl
 aside_still (outs.Decided member place) aside = λ id r. refl
 aside_still (outs.Installed member place) aside = absurd aside
 aside_still (outs.Delivered member place executed) aside = absurd aside
+aside_still (outs.View member number) aside = λ id r. refl
 aside_still (outs.Promised member number regency) aside = λ id r. refl
 aside_still (outs.Synced member number regency base bound) aside = λ id r. refl
 aside_still (outs.Dropped member why) aside = λ id r. refl
 aside_still (outs.Counted client have need) aside = λ id r. refl
 aside_still (outs.Accepted client seq place index reply) aside = absurd aside
+aside_still (outs.Viewed client have need) aside = λ id r. refl
+aside_still (outs.Moved client number) aside = λ id r. refl
 aside_still (outs.Ignored client why) aside = λ id r. refl
 aside_still (outs.Busy client seq) aside = λ id r. refl
 aside_still (outs.Absent member) aside = λ id r. refl
@@ -87,6 +89,7 @@ own_fired id r s (fires.Delivered d) same = ap (λ (k : ℕ). restart_of k r.ent
 own_fired id r s (fires.Marked snapshot) same = ap (λ (k : ℕ). restart_of k r.entries) (sym same)
 own_fired id r s (fires.Adopted a) same = ap (λ (k : ℕ). restart_of k r.entries) (sym same)
 own_fired id r s fires.Joined same = ap (λ (k : ℕ). restart_of k r.entries) (sym same)
+own_fired id r s (fires.Viewed number) same = ap (λ (k : ℕ). restart_of k r.entries) (sym same)
 own_fired id r s (fires.Promised p) same = ap (λ (k : ℕ). restart_of k r.entries) (sym same)
 own_fired id r s fires.Led same = ap (λ (k : ℕ). restart_of k r.entries) (sym same)
 own_fired id r s fires.Proposed same = ap (λ (k : ℕ). restart_of k r.entries) (sym same)
@@ -121,6 +124,7 @@ other_fired id member r (fires.Delivered d) differ = refl
 other_fired id member r (fires.Marked snapshot) differ = refl
 other_fired id member r (fires.Adopted a) differ = refl
 other_fired id member r fires.Joined differ = refl
+other_fired id member r (fires.Viewed number) differ = refl
 other_fired id member r (fires.Promised p) differ = refl
 other_fired id member r fires.Led differ = refl
 other_fired id member r fires.Proposed differ = refl
@@ -144,6 +148,8 @@ other_outcome id member r (Some why) fired differ = other_all id member r fired 
 heard_still : (client : ℕ) (h : Heard) → IsStill (told_heard client h)
 heard_still client (hears.Counted count need) = λ id r. refl
 heard_still client (hears.Accepted acceptance) = λ id r. refl
+heard_still client (hears.Viewed count need) = λ id r. refl
+heard_still client (hears.Moved number) = λ id r. refl
 heard_still client (hears.Ignored why) = λ id r. refl
 
 -- hosts
@@ -211,7 +217,7 @@ from-stepped {S = S} m before w i h event at r is =
     let told : List OutLine = w.told ++ lines in
     let last : ℕ → Restart = λ id. last_restart id (before id) w.told in
     let name : h'.node.id ≡ h.node.id = named-step m h.node event in
-    keeps-sends_all (λ (v : World S). AllFrom before v) h.node.id (view_of o.node) (λ v held all. from-posts before v (from_node h.node.id (view_of o.node) held) all) _ (leaving o.node.firm o.node.held)
+    keeps-sends_all (λ (v : World S). AllFrom before v) h.node.id (view_of o.node) (λ v held all. from-posts before v (from_node v h.node.id (view_of o.node) held) all) _ (leaving o.node.firm o.node.held)
     (record {
       hosts = set_others (λ (g : Host S). HostFrom before w.told g) (λ (g : Host S). HostFrom before told g) w.hosts i h h' r.1.ids.once at
           (λ g differ own. subst (λ (x : Restart). WentOn x g)
@@ -227,7 +233,7 @@ from-stepped {S = S} m before w i h event at r is =
 
 -- a client hears
 
-from-hearing : {S : Type 0} (before : ℕ → Restart) (w : World S) (i : ℕ) (c : Client) (a : SignedBy Answer) (h : Heard) → AllFrom before w → AllFrom before (hearing w i c a h)
+from-hearing : {S : Type 0} (before : ℕ → Restart) (w : World S) (i : ℕ) (c : Client) (a : Word) (h : Heard) → AllFrom before w → AllFrom before (hearing w i c a h)
 unfolding hearing
 from-hearing before w i c a h is = record {
   hosts = all_still before w.told (told_heard c.id h ∷ []) w.hosts (heard_still c.id h, tt) is.hosts;
@@ -298,12 +304,12 @@ keeps-restarts {S = S} m brief service before =
       live = record {
         event = λ w i h event on up at may is. (k.live.event w i h event on up at may is.0, from-stepped m before w i h event at is.0 is.1);
         disk = λ w i h on up at is. (k.live.disk w i h on up at is.0, from-set before w i h (after_call (course_of m) h) at refl refl refl is.1);
-        hear = λ w i c x a on at has read is. (k.live.hear w i c x a on at has read is.0, from-hearing before w i c a (heard w.view c a) is.1);
+        hear = λ w i c x a on at has read is. (k.live.hear w i c x a on at has read is.0, from-hearing before w i c a (heard_word c a) is.1);
         ask = λ w i c op on at free few brief is. (
           k.live.ask w i c op on at free few brief is.0,
-          from-posts before (asked_by w i c op) (from_client w.view c (ask_of c op)) (record { hosts = is.1.hosts; nobody = is.1.nobody }),
+          from-posts before (asked_by w i c op) (from_client c (ask_of c op)) (record { hosts = is.1.hosts; nobody = is.1.nobody }),
         );
-        again = λ w i c q on at waits is. (k.live.again w i c q on at waits is.0, from-posts before w (from_client w.view c (signed_by c q)) is.1);
+        again = λ w i c q on at waits is. (k.live.again w i c q on at waits is.0, from-posts before w (from_client c (signed_by c q)) is.1);
         learn = λ w i j c d on at other is. (
           k.live.learn w i j c d on at other is.0,
           let one = from-line before w (learned_line c d.seen) (λ id r. refl) is.1 in record { hosts = one.hosts; nobody = one.nobody },

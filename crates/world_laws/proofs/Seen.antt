@@ -1,20 +1,19 @@
 -- What a client has seen is what the transcript tells that it knows.
-use Rattle.std.proofs.Common.{◌≡◌, ℕ, zero, suc, ◌+◌, ◌<◌, ◌≤◌, ◌++◌, ◌==◌, Bool, true, false, List, [], ◌∷◌, length, refl, ap, ◌∙◌, sym, arith, cond, Some, max, subst, eqb-true, eq-eqb}
+use Rattle.std.proofs.Common.{◌≡◌, ℕ, zero, suc, ◌+◌, ◌<◌, ◌≤◌, ◌++◌, ◌==◌, Bool, true, false, List, [], ◌∷◌, length, refl, ap, ◌∙◌, sym, arith, cond, Some, max, subst, eqb-true, eq-eqb, inl, inr}
 use Rattle.node_rules.specs.Nodes.{view_of}
 use Rattle.std.specs.Prelude.{slice_get, slice_set, option_map}
 use Rattle.std.specs.List.{flat_map}
 use Rattle.smart_base.specs.Lists.{Each}
 use Rattle.smart_base.specs.Views.{View}
-use Rattle.smart_statements.specs.Forms.{SignedBy}
-use Rattle.smart_statements.specs.declared.statement.Answer.{Answer}
 use Rattle.smart_service.specs.Services.{Meaning}
 use Rattle.node_rules.specs.Steps.{Outcome, leaving}
-use Rattle.client_quorum.specs.Clients.{request_of, asking, learning, after_heard}
+use Rattle.client_quorum.specs.Clients.{request_of, asking, learning}
 use Rattle.client_quorum.specs.declared.client.Client.{Client}
+use Rattle.client_quorum.specs.declared.client.Word.{Word}
 use Rattle.client_quorum.specs.declared.client.Acceptance.{Acceptance}
 use Rattle.client_quorum.specs.declared.client.Heard.{Heard}
 use Rattle.client_quorum.specs.declared.client.Heard.TheVariants as hears
-use Rattle.world_rules.specs.Clients.{heard}
+use Rattle.world_rules.specs.Clients.{heard_word}
 use Rattle.world_rules.specs.Worlds.{Course, Host, World, posts, told_drop, told_fired, stepped, told_heard, hearing, clients_from, begun}
 use Rattle.world_rules.specs.Plays.{line_played, rested, world_after, lines_told}
 use Rattle.world_rules.specs.declared.line.Line.{Line}
@@ -23,10 +22,11 @@ use Rattle.world_rules.specs.declared.line.OutLine.TheVariants as outs
 use Rattle.world_rules.specs.Knowing.{place_told, known_by, seen_by}
 use Rattle.world_laws.proofs.Numbered.{EachAt, each_at_get, each_at_weaker, each_at_set}
 use Rattle.world_laws.proofs.Keeps.{aside_beside, IsBeside, outcome-beside, signed_by, ask_of, asked_by, learned_line, resumed_line, by-posts, KeepsLives, live-line_played, from_node, from_client, from_script, keeps-sends_all}
-use Rattle.world_laws.proofs.Hearing.{Accepts, accepts_waiting}
+use Rattle.world_laws.proofs.Hearing.{Accepts, Does, word_does}
 use Rattle.world_laws.proofs.Asking.{ClientRight, ClientsRight, keeps-right, rested-right, each_fresh, right-begun}
 use Rattle.world_rules.specs.declared.message.Sent.{Sent}
 use Rattle.world_rules.specs.declared.line.Header.{Header}
+use Rattle.client_quorum.specs.Readings.{after_word}
 
 -- transcripts
 
@@ -42,11 +42,14 @@ none_told i (outs.Sent number origin summary) beside = refl
 none_told i (outs.Decided member place) beside = refl
 none_told i (outs.Installed member place) beside = refl
 none_told i (outs.Delivered member place executed) beside = refl
+none_told i (outs.View member number) beside = refl
 none_told i (outs.Promised member number regency) beside = refl
 none_told i (outs.Synced member number regency base bound) beside = refl
 none_told i (outs.Dropped member why) beside = refl
 none_told i (outs.Counted client have need) beside = refl
 none_told i (outs.Accepted client seq place index reply) beside = absurd beside
+none_told i (outs.Viewed client have need) beside = refl
+none_told i (outs.Moved client number) beside = refl
 none_told i (outs.Ignored client why) beside = refl
 none_told i (outs.Busy client seq) beside = refl
 none_told i (outs.Absent member) beside = refl
@@ -121,7 +124,7 @@ know-posts {S = S} before count w s is =
 know-stepped : {S : Type 0} (course : Course S) (before : ℕ → ℕ) (count : ℕ) (w : World S) (i : ℕ) (h : Host S) (o : Outcome S) → AllKnow before count w → AllKnow before count (stepped course w i h o)
 unfolding stepped
 know-stepped {S = S} course before count w i h o is =
-    keeps-sends_all (λ (v : World S). AllKnow before count v) h.node.id (view_of o.node) (λ v held knows. know-posts before count v (from_node h.node.id (view_of o.node) held) knows) _ (leaving o.node.firm o.node.held)
+    keeps-sends_all (λ (v : World S). AllKnow before count v) h.node.id (view_of o.node) (λ v held knows. know-posts before count v (from_node v h.node.id (view_of o.node) held) knows) _ (leaving o.node.firm o.node.held)
     (record {
       each = know-beside before w.clients w.told (told_drop h.node.id o.dropped ++ flat_map (told_fired h.node.id) o.fired)
           (outcome-beside h.node.id o) is.each;
@@ -130,20 +133,26 @@ know-stepped {S = S} course before count w i h o is =
 
 -- a client hears
 
-know-heard : (before : ℕ → ℕ) (clients : List Client) (told : List OutLine) (v : View) (i : ℕ) (c : Client) (a : SignedBy Answer) (h : Heard) → slice_get clients i ≡ Some c → c.id ≡ i → heard v c a ≡ h
-    → EachAt (Knows before told) clients → EachAt (Knows before (told ++ told_heard c.id h ∷ [])) (slice_set clients i (after_heard c a h))
-know-heard before clients told v i c a (hears.Counted count need) at id is each = know-told before clients told i c _ _ 0 at (omega arith) refl (λ j other. refl) each
-know-heard before clients told v i c a (hears.Ignored why) at id is each = know-told before clients told i c c _ 0 at (omega arith) refl (λ j other. refl) each
-know-heard before clients told v i c a (hears.Accepted acc) at id is each =
-    let taken : Accepts v c a acc = accepts_waiting v c a acc is in
-    know-told before clients told i c _ _ a.statement.place at refl
-    (place_own c.id i acc.place id ∙ ap (λ (b : Acceptance). b.place) taken.is) (λ j other. place_other c.id j acc.place (λ same. other (sym same ∙ id))) each
+know-heard : (before : ℕ → ℕ) (clients : List Client) (told : List OutLine) (i : ℕ) (c : Client) (word : Word) (h : Heard) (after : Client) → slice_get clients i ≡ Some c → c.id ≡ i → Does c word h after
+    → EachAt (Knows before told) clients → EachAt (Knows before (told ++ told_heard c.id h ∷ [])) (slice_set clients i after)
+know-heard before clients told i c word h after at id (inl stays) each =
+    let beside = aside_beside (told_heard c.id h) (stays.line c.id) in
+    subst (λ (x : Client). EachAt (Knows before (told ++ told_heard c.id h ∷ [])) (slice_set clients i x)) (sym stays.next)
+    (know-told before clients told i c (record c { replies = stays.replies; views = stays.views; infos = stays.infos }) (told_heard c.id h) 0 at (omega arith)
+    (none_told i (told_heard c.id h) beside) (λ j other. none_told j (told_heard c.id h) beside) each)
+know-heard before clients told i c word h after at id (inr takes) each =
+    let acc : Acceptance = takes.acceptance in
+    let taken : Accepts c takes.reply acc = takes.accepts in
+    subst (λ (h : Heard). EachAt (Knows before (told ++ told_heard c.id h ∷ [])) (slice_set clients i after)) (sym takes.heard_is)
+    (subst (λ (x : Client). EachAt (Knows before (told ++ told_heard c.id (hears.Accepted acc) ∷ [])) (slice_set clients i x)) (sym takes.next)
+    (know-told before clients told i c _ _ takes.reply.statement.place at refl
+    (place_own c.id i acc.place id ∙ ap (λ (b : Acceptance). b.place) taken.is) (λ j other. place_other c.id j acc.place (λ same. other (sym same ∙ id))) each))
 
-know-hearing : {S : Type 0} (before : ℕ → ℕ) (count : ℕ) (w : World S) (i : ℕ) (c : Client) (a : SignedBy Answer) → slice_get w.clients i ≡ Some c → c.id ≡ i → AllKnow before count w
-    → AllKnow before count (hearing w i c a (heard w.view c a))
+know-hearing : {S : Type 0} (before : ℕ → ℕ) (count : ℕ) (w : World S) (i : ℕ) (c : Client) (a : Word) → slice_get w.clients i ≡ Some c → c.id ≡ i → AllKnow before count w
+    → AllKnow before count (hearing w i c a (heard_word c a))
 unfolding hearing
 know-hearing before count w i c a at id is =
-    record { each = know-heard before w.clients w.told w.view i c a (heard w.view c a) at id refl is.each; there = count-set w.clients i _ ∙ is.there }
+    record { each = know-heard before w.clients w.told i c a (heard_word c a) (after_word c a (heard_word c a)) at id (word_does c a) is.each; there = count-set w.clients i _ ∙ is.there }
 
 -- a client asks
 
@@ -175,9 +184,9 @@ keeps-knowing course before count =
         hear = λ w i c x a on at has read is. (k.live.hear w i c x a on at has read is.0, know-hearing before count w i c a at (id_at w i c at is.0) is.1);
         ask = λ w i c op on at free few brief is. (
           k.live.ask w i c op on at free few brief is.0,
-          know-posts before count (asked_by w i c op) (from_client w.view c (ask_of c op)) (know-asked before count w i c op at is.1),
+          know-posts before count (asked_by w i c op) (from_client c (ask_of c op)) (know-asked before count w i c op at is.1),
         );
-        again = λ w i c q on at waits is. (k.live.again w i c q on at waits is.0, know-posts before count w (from_client w.view c (signed_by c q)) is.1);
+        again = λ w i c q on at waits is. (k.live.again w i c q on at waits is.0, know-posts before count w (from_client c (signed_by c q)) is.1);
         learn = λ w i j c d on at other is. (
           k.live.learn w i j c d on at other is.0,
           record {
@@ -229,14 +238,14 @@ seen-after {S = S} course known count w (l ∷ ls) right none is =
     }
 
 -- so many clients
-fresh-count : (count i : ℕ) → length (clients_from count i) ≡ count
+fresh-count : (view : View) (count i : ℕ) → length (clients_from view count i) ≡ count
 unfolding clients_from
-fresh-count zero i = refl
-fresh-count (suc count) i = ap suc (fresh-count count (i + 1))
+fresh-count view zero i = refl
+fresh-count view (suc count) i = ap suc (fresh-count view count (i + 1))
 
 -- clients begin having seen nothing
 seen-begun : {S : Type 0} (m : Meaning S) (g : Header) → Seen (λ i. 0) 1025 (begun m g)
-seen-begun m g = record { each = each_fresh (λ i c. c.seen ≡ 0) 1025 0 (λ k. refl); there = fresh-count 1025 0 }
+seen-begun m g = record { each = each_fresh (λ i c. c.seen ≡ 0) g.view 1025 0 (λ k. refl); there = fresh-count g.view 1025 0 }
 
 -- what each client at an index has seen
 seen-at : (known : ℕ → ℕ) (clients : List Client) (i : ℕ) → EachAt (λ j (c : Client). c.seen ≡ known j) clients → i < length clients → option_map (λ (c : Client). c.seen) (slice_get clients i) ≡ Some (known i)

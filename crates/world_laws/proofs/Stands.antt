@@ -1,5 +1,4 @@
 -- A step leaves a node at its place of the list. What it installs is the state that more than f members marked.
-use Rattle.world_laws.proofs.OneViews.{planned_one}
 use Rattle.std.proofs.Common.{◌≡◌, ℕ, zero, suc, ◌+◌, ◌<◌, ◌≤◌, ◌++◌, ◌∙◌, Bool, true, List, [], ◌∷◌, length, take, ap, sym, arith, subst, Option, Some, None}
 use Rattle.std.proofs.lemmas.List.{length-take-le}
 use Rattle.std.specs.Prelude.{IfSome, slice_get}
@@ -9,10 +8,13 @@ use Rattle.smart_service.specs.Services.{Meaning}
 use Rattle.smart_service.specs.declared.replica.Replica.{Replica}
 use Rattle.state_transfer.specs.Fetches.{are_all_there, joined_of}
 use Rattle.state_transfer.specs.declared.fetch.Fetch.{Fetch}
+use Rattle.state_transfer.specs.declared.choice.Plan.{Plan}
+use Rattle.vote_book.specs.Books.{Among}
 use Rattle.vote_book.specs.declared.entry.LogEntry.{LogEntry}
 use Rattle.book_laws.specs.BookCuts.{cut_at}
-use Rattle.replica_rules.specs.Replicas.{batch_at, delivered, empty, state}
+use Rattle.replica_rules.specs.Replicas.{batch_at, delivered, empty, state, views_after}
 use Rattle.replica_rules.specs.Seals.{digest_of}
+use Rattle.replica_rules.proofs.Managed.{state_views}
 use Rattle.replica_rules.proofs.Places.{place_delivered, state_place}
 use Rattle.agreement_laws.specs.Law.{Witnessed}
 use Rattle.agreement_laws.specs.Statements.{Statement}
@@ -23,6 +25,7 @@ use Rattle.node_laws.specs.Sound.{IsPlanned, IsSound}
 use Rattle.node_laws.proofs.Planning.{IsTakenFrom}
 use Rattle.node_laws.proofs.Installing.{IsReady}
 use Rattle.node_laws.proofs.Reopened.{after_append}
+use Rattle.node_laws.proofs.Views.{numbered_has}
 use Rattle.replica_laws.proofs.Moves.{Moves, moves_none, moves_on, moves_to}
 use Rattle.world_rules.specs.declared.message.Sent.{Sent}
 use Rattle.world_laws.proofs.Fetching.{IsFetchMet, some-joined}
@@ -44,7 +47,7 @@ take_next [] p x at = absurd (cc)
 take_next (y ∷ xs) zero x at = cc
 take_next (y ∷ xs) (suc p) x at = let e : suc p + 1 ≡ suc (p + 1) = omega arith in rw e (ap (λ ys. y ∷ ys) (take_next xs p x at))
 
-get_within : {A : Type 0} (xs : List A) (p : ℕ) (x : A) → slice_get xs p ≡ Some x → p < length xs
+pub get_within : {A : Type 0} (xs : List A) (p : ℕ) (x : A) → slice_get xs p ≡ Some x → p < length xs
 get_within [] p x at = absurd (cc)
 get_within (y ∷ xs) zero x at = omega arith
 get_within (y ∷ xs) (suc p) x at = let rest = get_within xs p x at in omega (arith, rest)
@@ -57,7 +60,7 @@ state_next m view chosen p batch at =
 -- ---- a step
 
 module _ {S : Type 0} (m : Meaning S) (secret : List ℕ) (stated : List Statement) (view : View) (chosen : List Batch) (sent : List Sent) (marked : List (List ℕ)) (faulty : ℕ → Bool) (diary : ℕ → List LogEntry)
-    (witnessed : Witnessed secret digest_of view faulty diary stated) (right : AreMarksRight m view chosen sent marked faulty diary) (exact : TextsExact sent marked) (may : AreRestorable m view chosen)
+    (witnessed : (u : View) (k : ℕ) → Among u (views_after view (take k chosen)) → Witnessed secret digest_of u faulty diary stated) (right : AreMarksRight m view chosen sent marked faulty diary) (exact : TextsExact sent marked) (may : AreRestorable m view chosen)
     (whole : List LogEntry) (n : Node S) (sound : IsSound stated view n) (shared : n.secret ≡ secret) (cut : n.entries ≡ cut_at n.opening whole) (along : AreAlong chosen whole) (at : IsAt m view chosen n)
     (met : IsFetchMet sent marked n.fetch) where
   stays : (r : Replica S) → r ≡ n.replica → IsStateAt m view chosen r
@@ -84,11 +87,18 @@ module _ {S : Type 0} (m : Meaning S) (secret : List ℕ) (stated : List Stateme
   stands_met (Some x) f is texts =
       subst (λ (y : Fetch). are_all_there y ≡ true → (joined_of y ≡ [] → ⊥) → IsTextMet sent marked (joined_of y)) (some_equal x f is) texts
 
+  -- a view that the node knows is one of the list's
+  known : (u : View) → Among u n.replica.views → Among u (views_after view (take n.replica.place chosen))
+  known u there = subst (λ (vs : List View). Among u vs) (ap (λ (r : Replica S). r.views) at.replica ∙ state_views m view (take n.replica.place chosen)) there
+
+  -- so the view in which a plan's marks certify has witnesses
+  planned_by : (p : Plan) (planned : IsPlanned secret n.replica.views stated p) → Witnessed secret digest_of planned.of_view.view faulty diary stated
+  planned_by p planned = witnessed planned.of_view.view n.replica.place (known planned.of_view.view (numbered_has n.replica.views p.view planned.of_view.view planned.of_view.is).there)
+
   installs : (f : Fetch) (r : Replica S) → IsReady n f → are_all_there f ≡ true → IsTakenFrom m f r → IsStateAt m view chosen r
   installs f r due all taken =
       let planned : IsPlanned secret n.replica.views stated f.plan = subst (λ (s : List ℕ). IsPlanned s n.replica.views stated f.plan) shared (stands_planned n.fetch f due.stands sound.fetch) in
-      let certified = planned_one m secret stated view chosen n f.plan at planned in
-      let text = certified_text m secret view chosen sent marked faulty diary stated f.plan.place f.plan.digest f.plan.marks (joined_of f) witnessed right exact certified planned.drawn
+      let text = certified_text m secret planned.of_view.view view chosen sent marked faulty diary stated f.plan.place f.plan.digest f.plan.marks (joined_of f) (planned_by f.plan planned) right exact planned.certified planned.drawn
       (stands_met n.fetch f due.stands met all (some-joined m f r taken)) taken.digest_is in
       let state_is : r ≡ state m view (take text.1.place chosen) = certified_replica m view chosen (joined_of f) r may text.1 taken.read in
       let long : length (take text.1.place chosen) ≡ text.1.place = length-take-le text.1.place chosen text.1.within in
@@ -100,8 +110,7 @@ module _ {S : Type 0} (m : Meaning S) (secret : List ℕ) (stated : List Stateme
   pub installed-text : (f : Fetch) (r : Replica S) → IsReady n f → are_all_there f ≡ true → IsTakenFrom m f r → IsSnapshotAt m view chosen (joined_of f)
   installed-text f r due all taken =
       let planned : IsPlanned secret n.replica.views stated f.plan = subst (λ (s : List ℕ). IsPlanned s n.replica.views stated f.plan) shared (stands_planned n.fetch f due.stands sound.fetch) in
-      let certified = planned_one m secret stated view chosen n f.plan at planned in
-      (certified_text m secret view chosen sent marked faulty diary stated f.plan.place f.plan.digest f.plan.marks (joined_of f) witnessed right exact certified planned.drawn
+      (certified_text m secret planned.of_view.view view chosen sent marked faulty diary stated f.plan.place f.plan.digest f.plan.marks (joined_of f) (planned_by f.plan planned) right exact planned.certified planned.drawn
       (stands_met n.fetch f due.stands met all (some-joined m f r taken)) taken.digest_is).1
 
   pub moved-at : (r : Replica S) → Moves m n r → IsStateAt m view chosen r

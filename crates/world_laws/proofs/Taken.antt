@@ -38,7 +38,7 @@ pub record IsRightMark {S : Type 0} (m : Meaning S) (view : View) (chosen : List
 -- diaries in which each mark of a correct member is right
 abbrev pub AreMarksRight : {S : Type 0} → Meaning S → View → List Batch → List Sent → List (List ℕ) → (ℕ → Bool) → (ℕ → List LogEntry) → Type 0
 AreMarksRight m view chosen sent marked faulty diary =
-    (member : ℕ) → IsCorrect view faulty member → (k : Mark) → Among (entries.Marked k) (diary member) → IsRightMark m view chosen sent marked k
+    (member : ℕ) → faulty member ≡ false → (k : Mark) → Among (entries.Marked k) (diary member) → IsRightMark m view chosen sent marked k
 
 -- ---- one of them is correct
 
@@ -50,14 +50,14 @@ pub record MarkedBy (view : View) (faulty : ℕ → Bool) (items : List (SignedB
   pub signed : member ≡ item.signer
 
 -- a member that passes a test, and is not faulty
-record Passes (p faulty : ℕ → Bool) (xs : List ℕ) : Type 0 where
-  member : ℕ
-  there : Among member xs
-  passes : p member ≡ true
-  correct : faulty member ≡ false
+pub record Passes (p faulty : ℕ → Bool) (xs : List ℕ) : Type 0 where
+  pub member : ℕ
+  pub there : Among member xs
+  pub passes : p member ≡ true
+  pub correct : faulty member ≡ false
 
 -- one of more than are faulty is correct
-some_correct : (p faulty : ℕ → Bool) (xs : List ℕ) → length (filter faulty xs) < length (filter p xs) → Passes p faulty xs
+pub some_correct : (p faulty : ℕ → Bool) (xs : List ℕ) → length (filter faulty xs) < length (filter p xs) → Passes p faulty xs
 some_correct p faulty [] more = absurd (omega (arith, more))
 some_correct p faulty (x ∷ xs) more = by (p x) (faulty x) refl refl (λ less. some_correct p faulty xs less) more
   where
@@ -83,18 +83,18 @@ correct_marker secret view faulty place found items few cert =
 
 -- ---- so the text that they certify is the snapshot of a state
 
-pub certified_text : {S : Type 0} (m : Meaning S) (secret : List ℕ) (view : View) (chosen : List Batch) (sent : List Sent) (marked : List (List ℕ)) (faulty : ℕ → Bool)
+pub certified_text : {S : Type 0} (m : Meaning S) (secret : List ℕ) (u view : View) (chosen : List Batch) (sent : List Sent) (marked : List (List ℕ)) (faulty : ℕ → Bool)
     (diary : ℕ → List LogEntry) (stated : List Statement) (place : ℕ) (found : List ℕ) (items : List (SignedBy Mark)) (text : List ℕ)
-    → Witnessed secret digest_of view faulty diary stated → AreMarksRight m view chosen sent marked faulty diary → TextsExact sent marked
-    → IsMarkCertificate secret view place found items → Each (λ (k : SignedBy Mark). Among (says.Marked k) stated) items → IsTextMet sent marked text → digest text ≡ found
+    → Witnessed secret digest_of u faulty diary stated → AreMarksRight m view chosen sent marked faulty diary → TextsExact sent marked
+    → IsMarkCertificate secret u place found items → Each (λ (k : SignedBy Mark). Among (says.Marked k) stated) items → IsTextMet sent marked text → digest text ≡ found
     → IsRightMark m view chosen sent marked (mark_of place found) × IsSnapshotAt m view chosen text
-certified_text m secret view chosen sent marked faulty diary stated place found items text witnessed right exact cert drawn was_met is =
-    let by = correct_marker secret view faulty place found items witnessed.few.few cert in
+certified_text m secret u view chosen sent marked faulty diary stated place found items text witnessed right exact cert drawn was_met is =
+    let by = correct_marker secret u faulty place found items witnessed.few.few cert in
     let said : by.item.statement ≡ mark_of place found = each_among (λ (k : SignedBy Mark). k.statement ≡ mark_of place found) items by.item cert.0.stated by.there in
     let there : Among (says.Marked by.item) stated = each_among (λ (k : SignedBy Mark). Among (says.Marked k) stated) items by.item drawn by.there in
     let shown : Among (entries.Marked by.item.statement) (diary by.member) = witnessed.shown by.member by.is (says.Marked by.item) there (ap (λ (n : ℕ). Member n) (sym by.signed)) in
     let mark : IsRightMark m view chosen sent marked (mark_of place found) =
-    subst (λ (k : Mark). IsRightMark m view chosen sent marked k) said (right by.member by.is by.item.statement shown) in
+    subst (λ (k : Mark). IsRightMark m view chosen sent marked k) said (right by.member by.is.correct by.item.statement shown) in
     let same : text ≡ mark.snapshot = exact.same text mark.snapshot was_met mark.was_met (is ∙ sym mark.digest_is) in
     (mark, subst (λ (bytes : List ℕ). IsSnapshotAt m view chosen bytes) (sym same) mark.at)
 

@@ -7,18 +7,17 @@ use Rattle.std.proofs.lemmas.List.Elements.{filter-append}
 use Rattle.std.specs.List.{flat_map}
 use Rattle.smart_base.specs.Lists.{Each}
 use Rattle.smart_base.specs.Views.{View}
-use Rattle.smart_statements.specs.Forms.{SignedBy}
 use Rattle.smart_statements.specs.Batches.{Batch}
 use Rattle.smart_statements.specs.declared.statement.Request.{Request}
-use Rattle.smart_statements.specs.declared.statement.Answer.{Answer}
 use Rattle.smart_service.specs.Services.{Meaning}
 use Rattle.node_rules.specs.Steps.{Outcome, leaving}
 use Rattle.client_quorum.specs.Clients.{learning}
-use Rattle.world_rules.specs.Clients.{heard}
+use Rattle.world_rules.specs.Clients.{heard_word}
 use Rattle.world_laws.specs.Promises.{IsAnswered, is_acceptance, accepted_line}
 use Rattle.world_rules.specs.Worlds.{Course, course_of, Host, World, posts, told_drop, told_fired, stepped, told_heard, acceptance_in, hearing, begun}
 use Rattle.world_rules.specs.Plays.{line_played, rested, world_after, lines_told}
 use Rattle.client_quorum.specs.declared.client.Client.{Client}
+use Rattle.client_quorum.specs.declared.client.Word.{Word}
 use Rattle.client_quorum.specs.declared.client.Acceptance.{Acceptance}
 use Rattle.client_quorum.specs.declared.client.Heard.{Heard}
 use Rattle.client_quorum.specs.declared.client.Heard.TheVariants as hears
@@ -28,7 +27,7 @@ use Rattle.world_rules.specs.declared.line.OutLine.TheVariants as outs
 use Rattle.world_rules.specs.declared.message.Sent.{Sent}
 use Rattle.world_laws.proofs.Numbered.{each_at_get}
 use Rattle.world_laws.proofs.Keeps.{aside_beside, IsBeside, outcome-beside, ask_of, asked_by, by-posts, KeepsAll, KeepsLives, live-line_played, keeps-world_after, signed_by, learned_line, resumed_line, from_node, from_client, from_script, keeps-sends_all}
-use Rattle.world_laws.proofs.Hearing.{Accepts, accepts_waiting}
+use Rattle.world_laws.proofs.Hearing.{Accepts, Does, word_does}
 use Rattle.world_laws.proofs.Asking.{ClientRight, ClientsRight, keeps-right, rested-right, right-begun}
 use Rattle.replica_laws.proofs.OnePlace.{place_of-line, answer-line}
 use Rattle.world_laws.proofs.Accepted.{AcceptedTold, IsTold, line_accepted}
@@ -36,6 +35,7 @@ use Rattle.world_laws.proofs.Grows.{view-stays}
 use Rattle.agreement_laws.proofs.Lists.{each_end, each_append}
 use Rattle.smart_base.proofs.ViewFacts.{each-weaken}
 use Rattle.world_rules.specs.declared.line.Header.{Header}
+use Rattle.client_quorum.specs.Readings.{after_word}
 
 -- a line tells of one of the accepted replies
 abbrev IsOf : List Acceptance → OutLine → Type 0
@@ -85,7 +85,7 @@ stems-posts {S = S} w s is =
 stems-stepped : {S : Type 0} (course : Course S) (w : World S) (i : ℕ) (h : Host S) (o : Outcome S) → ToldStems w → ToldStems (stepped course w i h o)
 unfolding stepped
 stems-stepped course w i h o is =
-    keeps-sends_all ToldStems h.node.id (view_of o.node) (λ v held stems. stems-posts v (from_node h.node.id (view_of o.node) held) stems) _ (leaving o.node.firm o.node.held)
+    keeps-sends_all ToldStems h.node.id (view_of o.node) (λ v held stems. stems-posts v (from_node v h.node.id (view_of o.node) held) stems) _ (leaving o.node.firm o.node.held)
     (record {
       all = each_append (Stems w.accepted) w.told _ is.all
           (each-weaken IsBeside (Stems w.accepted) (λ line beside. inl beside) (told_drop h.node.id o.dropped ++ flat_map (told_fired h.node.id) o.fired) (outcome-beside h.node.id o));
@@ -94,13 +94,14 @@ stems-stepped course w i h o is =
 -- a client hears
 
 -- what a client tells of a reply that it hears
-stems-heard : (accepted : List Acceptance) (v : View) (c : Client) (a : SignedBy Answer) (h : Heard) → heard v c a ≡ h → ((q : Request) → c.waiting ≡ Some q → q.client ≡ c.id) → Stems (accepted ++ acceptance_in h) (told_heard c.id h)
-stems-heard accepted v c a (hears.Counted count need) is own = inl tt
-stems-heard accepted v c a (hears.Ignored why) is own = inl tt
-stems-heard accepted v c a (hears.Accepted acc) is own =
-    let taken : Accepts v c a acc = accepts_waiting v c a acc is in
+stems-heard : (accepted : List Acceptance) (c : Client) (word : Word) (h : Heard) (after : Client) → Does c word h after → ((q : Request) → c.waiting ≡ Some q → q.client ≡ c.id) → Stems (accepted ++ acceptance_in h) (told_heard c.id h)
+stems-heard accepted c word h after (inl stays) own = inl (aside_beside (told_heard c.id h) (stays.line c.id))
+stems-heard accepted c word h after (inr takes) own =
+    let acc : Acceptance = takes.acceptance in
+    let taken : Accepts c takes.reply acc = takes.accepts in
     let client : acc.request.client ≡ c.id = ap (λ (b : Acceptance). b.request.client) taken.is ∙ own taken.request taken.counts.waits in
-    inr (inr (of_last accepted acc (outs.Accepted c.id acc.request.seq acc.place acc.index acc.reply) (ap (λ (id : ℕ). outs.Accepted id acc.request.seq acc.place acc.index acc.reply) client)))
+    subst (λ (h : Heard). Stems (accepted ++ acceptance_in h) (told_heard c.id h)) (sym takes.heard_is)
+    (inr (inr (of_last accepted acc (outs.Accepted c.id acc.request.seq acc.place acc.index acc.reply) (ap (λ (id : ℕ). outs.Accepted id acc.request.seq acc.place acc.index acc.reply) client))))
 
 -- the request that waits at a client is its own
 waits_own : {S : Type 0} (w : World S) (i : ℕ) (c : Client) → slice_get w.clients i ≡ Some c → ClientsRight w → (q : Request) → c.waiting ≡ Some q → q.client ≡ c.id
@@ -109,13 +110,13 @@ waits_own w i c at right q waits =
     (own.waits q waits).client ∙ sym own.id
 
 -- a client hears a reply
-stems-hearing : {S : Type 0} (w : World S) (i : ℕ) (c : Client) (a : SignedBy Answer) → ((q : Request) → c.waiting ≡ Some q → q.client ≡ c.id) → ToldStems w → ToldStems (hearing w i c a (heard w.view c a))
+stems-hearing : {S : Type 0} (w : World S) (i : ℕ) (c : Client) (a : Word) → ((q : Request) → c.waiting ≡ Some q → q.client ≡ c.id) → ToldStems w → ToldStems (hearing w i c a (heard_word c a))
 unfolding hearing
 stems-hearing w i c a own is =
-    let h : Heard = heard w.view c a in
+    let h : Heard = heard_word c a in
     let more : List Acceptance = w.accepted ++ acceptance_in h in
     record {
-      all = each_end (Stems more) w.told (told_heard c.id h) (each-weaken (Stems w.accepted) (Stems more) (stems_more w.accepted (acceptance_in h)) w.told is.all) (stems-heard w.accepted w.view c a h refl own);
+      all = each_end (Stems more) w.told (told_heard c.id h) (each-weaken (Stems w.accepted) (Stems more) (stems_more w.accepted (acceptance_in h)) w.told is.all) (stems-heard w.accepted c a h (after_word c a h) (word_does c a) own);
     }
 
 -- all that is told stems from what was accepted, whatever happens
@@ -135,9 +136,9 @@ keeps-stemming course =
         hear = λ w i c x a on at has read is. (k.live.hear w i c x a on at has read is.0, stems-hearing w i c a (waits_own w i c at is.0) is.1);
         ask = λ w i c op on at free few brief is. (
           k.live.ask w i c op on at free few brief is.0,
-          stems-posts (asked_by w i c op) (from_client w.view c (ask_of c op)) (record { all = is.1.all }),
+          stems-posts (asked_by w i c op) (from_client c (ask_of c op)) (record { all = is.1.all }),
         );
-        again = λ w i c q on at waits is. (k.live.again w i c q on at waits is.0, stems-posts w (from_client w.view c (signed_by c q)) is.1);
+        again = λ w i c q on at waits is. (k.live.again w i c q on at waits is.0, stems-posts w (from_client c (signed_by c q)) is.1);
         learn = λ w i j c d on at other is. (
           k.live.learn w i j c d on at other is.0,
           record { all = each_end (Stems w.accepted) w.told (learned_line c d.seen) is.1.all (inr (inl (record { client = c.id; place = (learning c d.seen).seen; is = refl }))) },
@@ -167,10 +168,10 @@ accepted-posts {S = S} w s = by-posts (λ (v : World S). v.accepted ≡ w.accept
 accepted-stepped : {S : Type 0} (course : Course S) (w : World S) (i : ℕ) (h : Host S) (o : Outcome S) → (stepped course w i h o).accepted ≡ w.accepted
 unfolding stepped
 accepted-stepped {S = S} course w i h o =
-    keeps-sends_all (λ (v : World S). v.accepted ≡ w.accepted) h.node.id (view_of o.node) (λ v held is. accepted-posts v (from_node h.node.id (view_of o.node) held) ∙ is) _ (leaving o.node.firm o.node.held) refl
+    keeps-sends_all (λ (v : World S). v.accepted ≡ w.accepted) h.node.id (view_of o.node) (λ v held is. accepted-posts v (from_node v h.node.id (view_of o.node) held) ∙ is) _ (leaving o.node.firm o.node.held) refl
 
 -- where a client hears, more is accepted
-accepted-hearing : {S : Type 0} (w : World S) (i : ℕ) (c : Client) (a : SignedBy Answer) (h : Heard) → (hearing w i c a h).accepted ≡ w.accepted ++ acceptance_in h
+accepted-hearing : {S : Type 0} (w : World S) (i : ℕ) (c : Client) (a : Word) (h : Heard) → (hearing w i c a h).accepted ≡ w.accepted ++ acceptance_in h
 unfolding hearing
 accepted-hearing w i c a h = refl
 
@@ -182,7 +183,7 @@ keeps-stems course line =
         event = λ w i h event up at may stems. rw accepted-stepped stems;
         disk = λ w i h up at stems. stems;
         crash = λ w i h left up at may stems. stems;
-        hear = λ w i c x a at has read stems. rw accepted-hearing (stems_more w.accepted (acceptance_in (heard w.view c a)) line stems);
+        hear = λ w i c x a on at has read stems. rw accepted-hearing (stems_more w.accepted (acceptance_in (heard_word c a)) line stems);
         ask = λ w i c op at free few brief stems. rw accepted-posts stems;
         again = λ w i c q at waits stems. rw accepted-posts stems;
         learn = λ w i j c d at other stems. stems;
@@ -215,11 +216,14 @@ beside-answered m view chosen (outs.Sent number origin summary) beside = tt
 beside-answered m view chosen (outs.Decided member place) beside = tt
 beside-answered m view chosen (outs.Installed member place) beside = tt
 beside-answered m view chosen (outs.Delivered member place executed) beside = tt
+beside-answered m view chosen (outs.View member number) beside = tt
 beside-answered m view chosen (outs.Promised member number regency) beside = tt
 beside-answered m view chosen (outs.Synced member number regency base bound) beside = tt
 beside-answered m view chosen (outs.Dropped member why) beside = tt
 beside-answered m view chosen (outs.Counted client have need) beside = tt
 beside-answered m view chosen (outs.Accepted client seq place index reply) beside = absurd beside
+beside-answered m view chosen (outs.Viewed client have need) beside = tt
+beside-answered m view chosen (outs.Moved client number) beside = tt
 beside-answered m view chosen (outs.Ignored client why) beside = tt
 beside-answered m view chosen (outs.Busy client seq) beside = tt
 beside-answered m view chosen (outs.Absent member) beside = tt
@@ -277,11 +281,14 @@ none_accepted (outs.Sent number origin summary) beside = refl
 none_accepted (outs.Decided member place) beside = refl
 none_accepted (outs.Installed member place) beside = refl
 none_accepted (outs.Delivered member place executed) beside = refl
+none_accepted (outs.View member number) beside = refl
 none_accepted (outs.Promised member number regency) beside = refl
 none_accepted (outs.Synced member number regency base bound) beside = refl
 none_accepted (outs.Dropped member why) beside = refl
 none_accepted (outs.Counted client have need) beside = refl
 none_accepted (outs.Accepted client seq place index reply) beside = absurd beside
+none_accepted (outs.Viewed client have need) beside = refl
+none_accepted (outs.Moved client number) beside = refl
 none_accepted (outs.Ignored client why) beside = refl
 none_accepted (outs.Busy client seq) beside = refl
 none_accepted (outs.Absent member) beside = refl
@@ -316,19 +323,14 @@ all-posts {S = S} before w s is =
 all-stepped : {S : Type 0} (course : Course S) (before : List OutLine) (w : World S) (i : ℕ) (h : Host S) (o : Outcome S) → TellsAll before w → TellsAll before (stepped course w i h o)
 unfolding stepped
 all-stepped {S = S} course before w i h o is =
-    keeps-sends_all (λ (v : World S). TellsAll before v) h.node.id (view_of o.node) (λ v held all. all-posts before v (from_node h.node.id (view_of o.node) held) all) _ (leaving o.node.firm o.node.held)
+    keeps-sends_all (λ (v : World S). TellsAll before v) h.node.id (view_of o.node) (λ v held all. all-posts before v (from_node v h.node.id (view_of o.node) held) all) _ (leaving o.node.firm o.node.held)
     (record { all = is.all ∙ sym (all-beside before w.told (told_drop h.node.id o.dropped ++ flat_map (told_fired h.node.id) o.fired) (outcome-beside h.node.id o)) })
 
--- a client tells of what it accepts
-all-heard : (before told : List OutLine) (accepted : List Acceptance) (v : View) (c : Client) (a : SignedBy Answer) (h : Heard) → heard v c a ≡ h → ((q : Request) → c.waiting ≡ Some q → q.client ≡ c.id)
-    → map accepted_line accepted ≡ before ++ filter is_acceptance told → map accepted_line (accepted ++ acceptance_in h) ≡ before ++ filter is_acceptance (told ++ told_heard c.id h ∷ [])
-all-heard before told accepted v c a (hears.Counted count need) is own all =
-    ap (λ (xs : List Acceptance). map accepted_line xs) (append-nil accepted) ∙ (all ∙ sym (all-beside before told _ (tt, tt)))
-all-heard before told accepted v c a (hears.Ignored why) is own all =
-    ap (λ (xs : List Acceptance). map accepted_line xs) (append-nil accepted) ∙ (all ∙ sym (all-beside before told _ (tt, tt)))
-all-heard before told accepted v c a (hears.Accepted acc) is own all =
-    let taken : Accepts v c a acc = accepts_waiting v c a acc is in
-    let client : acc.request.client ≡ c.id = ap (λ (b : Acceptance). b.request.client) taken.is ∙ own taken.request taken.counts.waits in
+-- a client tells of a reply that it accepts
+all-accepted : (before told : List OutLine) (accepted : List Acceptance) (c : Client) (acc : Acceptance) → acc.request.client ≡ c.id
+    → map accepted_line accepted ≡ before ++ filter is_acceptance told
+    → map accepted_line (accepted ++ acc ∷ []) ≡ before ++ filter is_acceptance (told ++ told_heard c.id (hears.Accepted acc) ∷ [])
+all-accepted before told accepted c acc client all =
     let last : OutLine = outs.Accepted c.id acc.request.seq acc.place acc.index acc.reply in
     map-append accepted_line accepted (acc ∷ [])
     ∙ (ap (λ (xs : List OutLine). xs ++ accepted_line acc ∷ []) all
@@ -336,10 +338,22 @@ all-heard before told accepted v c a (hears.Accepted acc) is own all =
     ∙ ap (λ (xs : List OutLine). before ++ xs)
     (ap (λ (id : ℕ). filter is_acceptance told ++ outs.Accepted id acc.request.seq acc.place acc.index acc.reply ∷ []) client ∙ sym (told-parts told (last ∷ [])))))
 
-all-hearing : {S : Type 0} (before : List OutLine) (w : World S) (i : ℕ) (c : Client) (a : SignedBy Answer) → ((q : Request) → c.waiting ≡ Some q → q.client ≡ c.id) → TellsAll before w
-    → TellsAll before (hearing w i c a (heard w.view c a))
+-- a client tells of what it accepts
+all-heard : (before told : List OutLine) (accepted : List Acceptance) (c : Client) (word : Word) (h : Heard) (after : Client) → Does c word h after → ((q : Request) → c.waiting ≡ Some q → q.client ≡ c.id)
+    → map accepted_line accepted ≡ before ++ filter is_acceptance told → map accepted_line (accepted ++ acceptance_in h) ≡ before ++ filter is_acceptance (told ++ told_heard c.id h ∷ [])
+all-heard before told accepted c word h after (inl stays) own all =
+    ap (λ (xs : List Acceptance). map accepted_line (accepted ++ xs)) stays.none ∙ ap (λ (xs : List Acceptance). map accepted_line xs) (append-nil accepted)
+    ∙ (all ∙ sym (all-beside before told (told_heard c.id h ∷ []) (aside_beside (told_heard c.id h) (stays.line c.id), tt)))
+all-heard before told accepted c word h after (inr takes) own all =
+    let acc : Acceptance = takes.acceptance in
+    let taken : Accepts c takes.reply acc = takes.accepts in
+    subst (λ (h : Heard). map accepted_line (accepted ++ acceptance_in h) ≡ before ++ filter is_acceptance (told ++ told_heard c.id h ∷ [])) (sym takes.heard_is)
+    (all-accepted before told accepted c acc (ap (λ (b : Acceptance). b.request.client) taken.is ∙ own taken.request taken.counts.waits) all)
+
+all-hearing : {S : Type 0} (before : List OutLine) (w : World S) (i : ℕ) (c : Client) (a : Word) → ((q : Request) → c.waiting ≡ Some q → q.client ≡ c.id) → TellsAll before w
+    → TellsAll before (hearing w i c a (heard_word c a))
 unfolding hearing
-all-hearing before w i c a own is = record { all = all-heard before w.told w.accepted w.view c a (heard w.view c a) refl own is.all }
+all-hearing before w i c a own is = record { all = all-heard before w.told w.accepted c a (heard_word c a) (after_word c a (heard_word c a)) (word_does c a) own is.all }
 
 -- clients are right, and all that was accepted is told
 abbrev TellingAll : {S : Type 0} → List OutLine → World S → Type 0
@@ -356,9 +370,9 @@ keeps-all course before =
         hear = λ w i c x a on at has read is. (k.live.hear w i c x a on at has read is.0, all-hearing before w i c a (waits_own w i c at is.0) is.1);
         ask = λ w i c op on at free few brief is. (
           k.live.ask w i c op on at free few brief is.0,
-          all-posts before (asked_by w i c op) (from_client w.view c (ask_of c op)) (record { all = is.1.all }),
+          all-posts before (asked_by w i c op) (from_client c (ask_of c op)) (record { all = is.1.all }),
         );
-        again = λ w i c q on at waits is. (k.live.again w i c q on at waits is.0, all-posts before w (from_client w.view c (signed_by c q)) is.1);
+        again = λ w i c q on at waits is. (k.live.again w i c q on at waits is.0, all-posts before w (from_client c (signed_by c q)) is.1);
         learn = λ w i j c d on at other is. (
           k.live.learn w i j c d on at other is.0,
           record { all = is.1.all ∙ sym (ap (λ (xs : List OutLine). before ++ xs) (told-parts w.told (learned_line c d.seen ∷ []) ∙ append-nil (filter is_acceptance w.told))) },

@@ -134,7 +134,7 @@ unforged-posts {S = S} w s fine is =
 unforged-stepped : {S : Type 0} (course : Course S) (w : World S) (i : ℕ) (h : Host S) (o : Outcome S) → Unforged w → Unforged (stepped course w i h o)
 unfolding stepped
 unforged-stepped {S = S} course w i h o is =
-    keeps-sends_all (λ (v : World S). Unforged v) h.node.id (view_of o.node) (λ v held. unforged-posts v (from_node h.node.id (view_of o.node) held) tt) _ (leaving o.node.firm o.node.held) (record { each = is.each })
+    keeps-sends_all (λ (v : World S). Unforged v) h.node.id (view_of o.node) (λ v held. unforged-posts v (from_node v h.node.id (view_of o.node) held) tt) _ (leaving o.node.firm o.node.held) (record { each = is.each })
 
 -- whatever happens, nothing is forged
 pub keeps-unforged : {S : Type 0} (course : Course S) → KeepsAll course Unforged
@@ -145,9 +145,9 @@ keeps-unforged course =
         event = λ w i h event up at may is. unforged-stepped course w i h (course.step h.node event) is;
         disk = λ w i h up at is. record { each = is.each };
         crash = λ w i h left up at may is. record { each = is.each };
-        hear = λ w i c x a at has read is. record { each = is.each };
-        ask = λ w i c op at free few brief is. unforged-posts (asked_by w i c op) (from_client w.view c (ask_of c op)) tt (record { each = is.each });
-        again = λ w i c q at waits is. unforged-posts w (from_client w.view c (signed_by c q)) tt is;
+        hear = λ w i c x a on at has read is. record { each = is.each };
+        ask = λ w i c op at free few brief is. unforged-posts (asked_by w i c op) (from_client c (ask_of c op)) tt (record { each = is.each });
+        again = λ w i c q at waits is. unforged-posts w (from_client c (signed_by c q)) tt is;
         learn = λ w i j c d at other is. record { each = is.each };
         inject = λ w x read fine is. unforged-posts w (from_script x) fine is;
         declare = λ w faulty rogue ending how is.
@@ -232,7 +232,7 @@ fine_own faulty rogue sent content x fine reads read there =
 -- a member's statements
 
 -- whom a member's statement is from, is that member's node
-from_member : (id : ℕ) (o : Origin) → is_from (parties.Member id) o ≡ true → o ≡ origins.Node id
+pub from_member : (id : ℕ) (o : Origin) → is_from (parties.Member id) o ≡ true → o ≡ origins.Node id
 from_member id (origins.Node other) is = ap (λ (k : ℕ). origins.Node k) (sym (eqb-true id other is))
 from_member id (origins.Client other) is = absurd (cc)
 from_member id origins.Script is = absurd (cc)
@@ -316,6 +316,8 @@ reply_own (changes.Mark m) a (inr none) = absurd none
 reply_own (changes.StateAsk s) a there = absurd there
 reply_own (changes.StateOffer o) a there = let found = given Marked o.marks (Replied a) there in let is = found.is in absurd (cc)
 reply_own (changes.StatePart p) a there = absurd there
+reply_own (changes.ViewTold i) a (inl is) = absurd (cc)
+reply_own (changes.ViewTold i) a (inr none) = absurd none
 
 -- no vote that is shown is a reply
 no_proof : (a : SignedBy Answer) (d : Option ProvenBatch) → Among (Replied a) (proof_in d) → ⊥
@@ -337,8 +339,8 @@ reply_content (contents.Message m) a there =
 reply_content (contents.Raw bytes) a there = absurd there
 
 -- a reply that a node has sent as its own names it as its signer, and no client sends one
-node_reply : (views : List View) (id : ℕ) (to : List Party) (c : Content) (a : SignedBy Answer) → IsNodes views id to c → c ≡ contents.Message (Reply a) → a.signer ≡ id
-node_reply views id to c a own is = (subst (λ (x : Content). IsForTarget id own.target x) is own.own).0
+node_reply : (id : ℕ) (to : List Party) (c : Content) (a : SignedBy Answer) → IsNodes id to c → c ≡ contents.Message (Reply a) → a.signer ≡ id
+node_reply id to c a own is = (subst (λ (x : Content). IsForTarget id own.target x) is own.own).0
 
 client_reply : (views : List View) (id : ℕ) (to : List Party) (c : Content) (a : SignedBy Answer) → IsClients views id to c → c ≡ contents.Message (Reply a) → ⊥
 client_reply views id to c a own is = subst (λ (x : Content). IsAskOf id x) is own.own
@@ -360,7 +362,7 @@ member_states {S = S} w id a read own fine correct who there =
 
     by : (o : Origin) (found : Stands w.sent (Replied a)) → IsOwnSent (views_after w.view w.chosen) o found.message.to found.message.content → IsFine w.faulty w.rogue w.sent o found.message.content → found.message.origin ≡ o → NodeStates w.sent id (Replied a)
     by (origins.Node j) found own fine is =
-        here found (is ∙ ap (λ (k : ℕ). origins.Node k) (sym (node_reply (views_after w.view w.chosen) j found.message.to found.message.content a own (reply_content found.message.content a found.states)) ∙ who))
+        here found (is ∙ ap (λ (k : ℕ). origins.Node k) (sym (node_reply j found.message.to found.message.content a own (reply_content found.message.content a found.states)) ∙ who))
     by (origins.Client j) found own fine is = absurd (client_reply (views_after w.view w.chosen) j found.message.to found.message.content a own (reply_content found.message.content a found.states))
     by origins.Script found own fine is =
         ⊎_elim (λ excused. absurd (no_other (sym (subst (λ (k : ℕ). is_among w.faulty k ≡ true) who excused) ∙ correct)))

@@ -1,5 +1,5 @@
 -- What members have stated is witnessed by what became firm at them.
-use Rattle.world_laws.specs.InForce.{IsInForce}
+use Rattle.world_rules.specs.InForce.{IsInForce}
 use Rattle.std.proofs.Common.{◌≡◌, ⊎_elim, ◌⊎◌, ℕ, zero, suc, ◌+◌, ◌*◌, ◌^◌, ◌<◌, ◌≤◌, arith, ◌==◌, ◌&&◌, ◌||◌, Bool, true, false, List, [], ◌∷◌, ◌++◌, take, length, filter, refl, ap, sym, ◌∙◌, subst, inl, inr, Option, Some, eqb-true, eq-eqb, nat_le, append-nil, drop, append_assoc, length-append}
 use Rattle.std.proofs.lemmas.Bool.{ltb-false, leb-true, or_parts}
 use Rattle.std.proofs.lemmas.Grind.{flat_map-append}
@@ -24,7 +24,7 @@ use Rattle.agreement_laws.specs.Law.{FewFaulty, Witnessed}
 use Rattle.agreement_laws.proofs.Lists.{among_left, among_right, among_either, each_from, either, either_by, some_equal, each_among}
 use Rattle.agreement_laws.proofs.Growing.{take-longer, IsShown-front}
 use Rattle.agreement_laws.proofs.Closed.{closed}
-use Rattle.node_laws.specs.Sound.{AreAmong, IsStated, IsStatedEvent, IsHeld, IsSound}
+use Rattle.node_laws.specs.Sound.{AreAmong, AreRanged, IsStated, IsStatedEvent, IsHeld, IsSound}
 use Rattle.world_rules.specs.Secrets.{group_secret}
 use Rattle.world_rules.specs.Premises.{is_among, too_many}
 use Rattle.world_rules.specs.Worlds.{Host, World, host_of}
@@ -33,6 +33,7 @@ use Rattle.world_rules.specs.declared.message.Content.TheVariants as contents
 use Rattle.world_rules.specs.declared.message.Sent.{Sent}
 use Rattle.world_rules.specs.Stated.{stated_in, stated, diary_of, diary}
 use Rattle.world_laws.proofs.Lists.{each_insert, each_set}
+use Rattle.replica_rules.specs.Replicas.{views_after}
 use Rattle.world_laws.specs.Promises.{IsWitness}
 use Rattle.world_laws.proofs.Names.{any_insert, map_insert, names}
 use Rattle.world_laws.proofs.Keeps.{HasContent, MayRead}
@@ -332,6 +333,7 @@ few_faulty v faulty is few =
 -- a host of the group whose diary is sound
 pub record HostStands {S : Type 0} (w : World S) (h : Host S) : Type 0 where
   pub lawful : Lawful 0 0 h.life.diary
+  pub ranged : AreRanged (views_after w.view w.chosen) h.life.diary
   pub backed : (v : View) → IsInForce w v → Each (IsBacked group_secret digest_of v (stated w.sent)) h.life.diary
 
 -- what holds of each host's firm entries, holds of a member's diary
@@ -361,11 +363,21 @@ none_lawful before entry after split = absurd (apart before split)
     apart [] same = cc
     apart (e ∷ es) same = cc
 
+-- no entry is out of range
+none_ranged : (views : List View) → AreRanged views []
+none_ranged views before entry after split = absurd (apart before split)
+  where
+    apart : (before : List LogEntry) → [] ≡ before ++ entry ∷ after → ⊥
+    apart [] same = cc
+    apart (e ∷ es) same = cc
+
 -- where all hosts are such, and show what has been stated, each member's diary does
 pub witness-of : {S : Type 0} (w : World S) → Each (HostStands w) w.hosts → AllShown w.faulty (stated w.sent) w.hosts → (member : ℕ) → IsWitness w member
 witness-of {S = S} w hosts all member = record {
   lawful = by_host (λ (es : List LogEntry). Lawful 0 0 es) none_lawful w.hosts
       (each-weaken (HostStands w) (λ (h : Host S). Lawful 0 0 (firm_of h)) (λ h is. is.lawful) w.hosts hosts) member;
+  ranged = by_host (AreRanged (views_after w.view w.chosen)) (none_ranged (views_after w.view w.chosen)) w.hosts
+      (each-weaken (HostStands w) (λ (h : Host S). AreRanged (views_after w.view w.chosen) (firm_of h)) (λ h is. is.ranged) w.hosts hosts) member;
   backed = λ v force. by_host (Each (IsBacked group_secret digest_of v (stated w.sent))) tt w.hosts
       (each-weaken (HostStands w) (λ (h : Host S). Each (IsBacked group_secret digest_of v (stated w.sent)) (firm_of h)) (λ h is. is.backed v force) w.hosts hosts) member;
   shown = λ x there who correct. shown_at w.faulty x w.hosts member (all x there).0 (named x there who correct) who correct;

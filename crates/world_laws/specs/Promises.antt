@@ -1,5 +1,5 @@
 -- The promise of a play: all members deliver one list of batches (state machine replication).
-use Rattle.std.specs.Prelude.{ℕ, zero, suc, true, ◌+◌, ◌-◌, ◌^◌, ◌++◌, ◌==◌, ◌≡◌, ◌<◌, ◌≤◌, ◌⊎◌, List, [], ◌∷◌, length, take, slice_get, max, filter, map, if◌then◌else◌, nat_le, not, ◌&&◌, Bool, false, Option, Some, None, IfSome}
+use Rattle.std.specs.Prelude.{ℕ, zero, suc, true, ◌+◌, ◌-◌, ◌^◌, ◌++◌, ◌==◌, ◌≡◌, ◌<◌, ◌≤◌, ◌⊎◌, List, [], ◌∷◌, length, take, slice_get, max, filter, map, if◌then◌else◌, nat_le, not, ◌&&◌, Bool, false, Option, Some, None}
 use Rattle.smart_base.specs.Lists.{Distinct, Each}
 use Rattle.smart_base.specs.Views.{View, is_member, is_view}
 use Rattle.smart_statements.specs.Kinds.{requests}
@@ -10,7 +10,7 @@ use Rattle.smart_base.specs.declared.party.Party.TheVariants.{Member}
 use Rattle.smart_base.specs.declared.limits.TheConstants.{CLIENTS, LAST_CLIENT}
 use Rattle.smart_messages.specs.declared.message.Message.TheVariants.{Ask}
 use Rattle.smart_service.specs.Services.{Meaning}
-use Rattle.replica_rules.specs.Replicas.{state, executed_lines, answer, place_of, batch_at, request_at, view_at}
+use Rattle.replica_rules.specs.Replicas.{state, executed_lines, answer, place_of, batch_at, request_at, view_at, views_after}
 use Rattle.replica_rules.specs.Seals.{digest_of, signed}
 use Rattle.node_rules.specs.Nodes.{next_place}
 use Rattle.node_rules.specs.Deliveries.{AtPlaces}
@@ -22,7 +22,8 @@ use Rattle.vote_book.specs.Entries.{entry_text}
 use Rattle.book_laws.specs.BookCuts.{cut_at}
 use Rattle.agreement_laws.specs.Certificates.{IsBacked}
 use Rattle.agreement_laws.specs.Diaries.{IsShown}
-use Rattle.agreement_laws.specs.Statements.{Statement, signer_of, said, reply_stated}
+use Rattle.agreement_laws.specs.Statements.{Statement, signer_of, said}
+use Rattle.agreement_laws.specs.Statements as statements
 use Rattle.store_laws.specs.Restored.{Images, restores}
 use Rattle.world_rules.specs.Crashes.{images_left, wrong_images}
 use Rattle.world_rules.specs.Fronts.{checkpoint_place}
@@ -32,12 +33,13 @@ use Rattle.node_rules.specs.declared.node.Delivery.{Delivery}
 use Rattle.world_rules.specs.Secrets.{group_secret}
 use Rattle.world_rules.specs.Premises.{is_among}
 use Rattle.world_rules.specs.declared.message.Content.TheVariants as contents
-use Rattle.world_rules.specs.Worlds.{Host, World, course_of, is_gone, life_crashed, parts_of, parts_held, host_index, host_resumed, is_name, begun}
+use Rattle.world_rules.specs.Worlds.{Host, World, asked_in, course_of, is_gone, life_crashed, parts_of, parts_held, host_index, host_resumed, is_name, begun}
 use Rattle.world_rules.specs.Plays.{has_member, world_after, lines_told}
 use Rattle.world_rules.specs.Knowing.{known_by}
 use Rattle.world_rules.specs.Stated.{IsWitnessed, stated, diary}
+use Rattle.client_quorum.specs.declared.client.Client.{Client}
 use Rattle.client_quorum.specs.declared.client.Acceptance.{Acceptance}
-use Rattle.world_laws.specs.Sending.{QuorumsReplied, SentFirm}
+use Rattle.world_laws.specs.Sending.{IsAddressedFrom, QuorumsReplied, SentFirm}
 use Rattle.world_rules.specs.declared.line.Line.{Line}
 use Rattle.world_rules.specs.declared.line.Line.TheVariants as lines
 use Rattle.world_rules.specs.declared.message.Ending.{Ending}
@@ -46,7 +48,8 @@ use Rattle.world_rules.specs.declared.line.OutLine.TheVariants as outs
 use Rattle.world_rules.specs.declared.message.Sent.{Sent}
 use Rattle.world_rules.specs.declared.message.Origin.TheVariants as origins
 use Rattle.world_rules.specs.declared.line.Header.{Header}
-use Rattle.world_laws.specs.InForce.{IsInForce}
+use Rattle.world_rules.specs.InForce.{IsInForce}
+use Rattle.node_laws.specs.Sound.{AreRanged}
 
 -- a waiting batch, if there is one, that is the list's batch at a place
 abbrev pub IsNext : List Batch → ℕ → Option Batch → Type 0
@@ -142,15 +145,29 @@ pub record IsRightReply {S : Type 0} (m : Meaning S) (w : World S) (a : Answer) 
   pub reply_is : answer m w.view w.chosen a.place a.index ≡ Some a.reply
   pub view_is : a.view ≡ (view_at w.view w.chosen a.place).number
 
--- a right statement: a reply is a right one; for other kinds nothing is claimed
+-- a right statement: a reply is a right one, and a view is one of the list; for other kinds nothing is claimed
 abbrev pub IsRightStatement : {S : Type 0} → Meaning S → World S → Statement → Type 0
-IsRightStatement m w s = IfSome (reply_stated s) (λ a. IsRightReply m w a.statement)
+IsRightStatement m w (statements.Replied a) = IsRightReply m w a.statement
+IsRightStatement m w (statements.Informed i) = Among i.statement.view (views_after w.view w.chosen)
+IsRightStatement m w (statements.Asked q) = Unit {0}
+IsRightStatement m w (statements.Proposed p) = Unit {0}
+IsRightStatement m w (statements.Voted b) = Unit {0}
+IsRightStatement m w (statements.Stopped s) = Unit {0}
+IsRightStatement m w (statements.Reported r) = Unit {0}
+IsRightStatement m w (statements.Synced s) = Unit {0}
+IsRightStatement m w (statements.Marked k) = Unit {0}
 
--- A world of right replies. Each reply in a message that a node holds is right. Each reply with a correct member's tag is right, in whichever
--- message it was sent.
-pub record AreRepliesRight {S : Type 0} (m : Meaning S) (w : World S) : Type 0 where
+-- A world of right statements. Each reply and each view in a message that a node holds is right. Each with a correct member's tag is right, in
+-- whichever message it was sent.
+pub record AreStatementsRight {S : Type 0} (m : Meaning S) (w : World S) : Type 0 where
   pub held : Each (λ h. Each (λ x. Each (IsRightStatement m w) (said x.message)) h.node.held) w.hosts
   pub sent : (s : Statement) (member : ℕ) → Among s (stated w.sent) → signer_of s ≡ Member member → is_among w.faulty member ≡ false → IsRightStatement m w s
+
+-- a client that knows some of these views alone, and first the one that the group begins with
+pub record KnowsViews (first : View) (views : List View) (c : Client) : Type 0 where
+  pub later : List View
+  pub begins : c.views ≡ first ∷ later
+  pub each : Each (λ v. Among v views) c.views
 
 -- the reply that an acceptance tells
 abbrev pub answer_accepted : Acceptance → Answer
@@ -175,32 +192,36 @@ unfoldable pub numbers_from : ℕ → ℕ → List ℕ
 numbers_from zero i = []
 numbers_from (suc count) i = i ∷ numbers_from count (i + 1)
 
--- A member's diary, whether the member is one of a view or has only a node. It is lawful, and rests on what has been stated in each view in
--- force. It shows each statement of the member, in whichever message it stands, unless the member is faulty.
+-- A member's diary, whether the member is one of a view or has only a node. It is lawful. Each entry is of a view of the list, and within its
+-- place and regency. It rests on what has been stated in each view in force. It shows each statement of the member, in whichever message it stands, unless the member is faulty.
 pub record IsWitness {S : Type 0} (w : World S) (member : ℕ) : Type 0 where
   pub lawful : Lawful 0 0 (diary w member)
+  pub ranged : AreRanged (views_after w.view w.chosen) (diary w member)
   pub backed : (v : View) → IsInForce w v → Each (IsBacked group_secret digest_of v (stated w.sent)) (diary w member)
   pub shown : (s : Statement) → Among s (stated w.sent) → signer_of s ≡ Member member → is_among w.faulty member ≡ false → IsShown digest_of (diary w member) s
 
 -- One list at a moment of a play. Each node has delivered a front of it, also a node that is gone, has stopped, or is no member. Whatever
 -- crashes leave of a node's devices, it restarts from a front of the list. Each member of the view that the group begins with has a node. No
--- member has two. Each number from 0 to 1,024 has one client. Each node's diary is lawful. A correct node's shows what it has stated. Each
--- reply that a node holds or a correct member has stated is right. Each accepted reply is right, a quorum has given it, and its place is kept.
--- A client accepts one reply to each number. What a node or a client has sent is its own. A node's votes, replies and reports rest on what became firm
--- there.
+-- member has two. Each number from 0 to 1,024 has one client, and a client knows views of the list alone. Each node's diary is lawful. A
+-- correct node's shows what it has stated. Each reply and each view that a node holds or a correct member has stated is right. Each accepted
+-- reply is right, a quorum has given it, and its place is kept. A client accepts one reply to each number. What a node or a client has sent is
+-- its own. A node's votes, replies and reports rest on what became firm there. What a node has sent went to the members of the view in force
+-- behind a place of the list, to one member, to one client, or to clients that have asked.
 pub record OneList {S : Type 0} (m : Meaning S) (w : World S) : Type 0 where
   pub members : filter (is_member w.view) (map (λ h. h.node.id) w.hosts) ≡ w.view.members
   pub nodes : Distinct (map (λ h. h.node.id) w.hosts)
   pub clients : map (λ c. c.id) w.clients ≡ numbers_from CLIENTS 0
+  pub known : Each (KnowsViews w.view (views_after w.view w.chosen)) w.clients
   pub hosts : Each (IsPrefix m w.view w.chosen) w.hosts
   pub recovers : Each (Recovers m w) w.hosts
   pub witness : (member : ℕ) → IsWitness w member
-  pub replied : AreRepliesRight m w
+  pub right : AreStatementsRight m w
   pub accepted : Each (IsRight m w) w.accepted
   pub quorums : QuorumsReplied w
   pub kept : Each (λ a. IsKept m w a.place) w.accepted
   pub apart : AreApart w.accepted
   pub firm : SentFirm w
+  pub addressed : Each (λ s. IsAddressedFrom w.view w.chosen (asked_in w.clients) s.origin s.to s.content) w.sent
 
 -- A transcript line that is true of the list. If it tells an accepted reply, it names where the list executes that client's request of that
 -- number, and the service's answer.
@@ -212,10 +233,13 @@ IsAnswered m view chosen (outs.Sent number origin summary) = Unit {0}
 IsAnswered m view chosen (outs.Decided member place) = Unit {0}
 IsAnswered m view chosen (outs.Installed member place) = Unit {0}
 IsAnswered m view chosen (outs.Delivered member place executed) = Unit {0}
+IsAnswered m view chosen (outs.View member number) = Unit {0}
 IsAnswered m view chosen (outs.Promised member number regency) = Unit {0}
 IsAnswered m view chosen (outs.Synced member number regency base bound) = Unit {0}
 IsAnswered m view chosen (outs.Dropped member why) = Unit {0}
 IsAnswered m view chosen (outs.Counted client have need) = Unit {0}
+IsAnswered m view chosen (outs.Viewed client have need) = Unit {0}
+IsAnswered m view chosen (outs.Moved client number) = Unit {0}
 IsAnswered m view chosen (outs.Ignored client why) = Unit {0}
 IsAnswered m view chosen (outs.Busy client seq) = Unit {0}
 IsAnswered m view chosen (outs.Absent member) = Unit {0}
@@ -237,10 +261,13 @@ is_acceptance (outs.Sent number origin summary) = false
 is_acceptance (outs.Decided member place) = false
 is_acceptance (outs.Installed member place) = false
 is_acceptance (outs.Delivered member place executed) = false
+is_acceptance (outs.View member number) = false
 is_acceptance (outs.Promised member number regency) = false
 is_acceptance (outs.Synced member number regency base bound) = false
 is_acceptance (outs.Dropped member why) = false
 is_acceptance (outs.Counted client have need) = false
+is_acceptance (outs.Viewed client have need) = false
+is_acceptance (outs.Moved client number) = false
 is_acceptance (outs.Ignored client why) = false
 is_acceptance (outs.Busy client seq) = false
 is_acceptance (outs.Absent member) = false
@@ -265,11 +292,14 @@ is_delivery id (outs.Group members faulty app period) = false
 is_delivery id (outs.Sent number origin summary) = false
 is_delivery id (outs.Decided member place) = false
 is_delivery id (outs.Installed member place) = false
+is_delivery id (outs.View member number) = false
 is_delivery id (outs.Promised member number regency) = false
 is_delivery id (outs.Synced member number regency base bound) = false
 is_delivery id (outs.Dropped member why) = false
 is_delivery id (outs.Counted client have need) = false
 is_delivery id (outs.Accepted client seq place index reply) = false
+is_delivery id (outs.Viewed client have need) = false
+is_delivery id (outs.Moved client number) = false
 is_delivery id (outs.Ignored client why) = false
 is_delivery id (outs.Busy client seq) = false
 is_delivery id (outs.Absent member) = false
@@ -311,11 +341,14 @@ restarts_with id before (outs.Sent number origin summary) = before
 restarts_with id before (outs.Decided member place) = before
 restarts_with id before (outs.Installed member place) = if member == id then restart_of place before.entries else before
 restarts_with id before (outs.Delivered member place executed) = before
+restarts_with id before (outs.View member number) = before
 restarts_with id before (outs.Promised member number regency) = before
 restarts_with id before (outs.Synced member number regency base bound) = before
 restarts_with id before (outs.Dropped member why) = before
 restarts_with id before (outs.Counted client have need) = before
 restarts_with id before (outs.Accepted client seq place index reply) = before
+restarts_with id before (outs.Viewed client have need) = before
+restarts_with id before (outs.Moved client number) = before
 restarts_with id before (outs.Ignored client why) = before
 restarts_with id before (outs.Busy client seq) = before
 restarts_with id before (outs.Absent member) = before
@@ -382,6 +415,7 @@ HasTaught w before after (lines.Tell from to) =
     w.ending ≡ None → is_among w.rogue from ≡ false → from ≤ LAST_CLIENT → to ≤ LAST_CLIENT → known_by to after ≡ max (known_by to before) (known_by from before)
 HasTaught w before after lines.Nothing = Unit {0}
 HasTaught w before after (lines.Ask client op) = Unit {0}
+HasTaught w before after (lines.Change op) = Unit {0}
 HasTaught w before after (lines.Again client) = Unit {0}
 HasTaught w before after (lines.Flow members) = Unit {0}
 HasTaught w before after (lines.Give number to) = Unit {0}

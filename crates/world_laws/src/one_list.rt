@@ -12,8 +12,8 @@ use smart_service::service::Service;
 /// One list of batches holds after each line of every script, for any group (state machine
 /// replication).
 ///
-/// A script may inject anything in the names of up to f faulty members of the view, of faulty nodes
-/// that are no members, and of rogue clients. It may add nodes. It may crash any members, and their
+/// A script may inject anything in the names of faulty members, up to f of each view of the list, of
+/// faulty nodes that are no members, and of rogue clients. It may add nodes. It may crash any members, and their
 /// devices may then hold whatever a crash can leave.
 ///
 /// *Delivery.* Each node has delivered a front of the list, also a faulty member's, a crashed one's
@@ -36,9 +36,12 @@ use smart_service::service::Service;
 /// reply states the view in force there. Each reply that a node holds is right. Each reply with a
 /// correct member's tag is right, in whichever message it was sent.
 ///
+/// *Views.* Each view that a node tells clients is one of the list's, and so is each that is stated with a
+/// correct member's tag. A client knows such views alone, and from the beginning the header's.
+///
 /// *Acceptance.* Each reply that a client accepted is right. The request at its place is the one that
 /// the client asked; for a rogue client it may be another request of that number. A quorum of the
-/// view's members has given the reply. Its place is kept. Take the view in force there: whatever
+/// members of the view that it states has given the reply. Its place is kept. Take the view in force there: whatever
 /// crashes leave of devices, more than f correct members of it restore that place or a later one. The
 /// request states no earlier place than any that its client knew before it sent the request. What a
 /// client knows the transcript tells: places of accepted replies, and learned ones.
@@ -51,8 +54,11 @@ use smart_service::service::Service;
 /// decided batches again, and no line tells that.
 ///
 /// *Evidence.* What a node or a client has sent is its own, except a client's request that a node
-/// passed on. A node's votes, replies and reports rest on entries that became firm there. After each
-/// line each node's diary is lawful, also one of no member. It shows what a correct node has stated.
+/// passed on. A node's votes, replies and reports rest on entries that became firm there. What is for
+/// members went to one of them, or to those of the view in force behind a place of the list, at which
+/// the node stood. It names no later view. No mark and no ask for state names a place past that one. What
+/// is for all clients went to such as have asked. After each line each node's diary is lawful, also one of no member. It shows what a
+/// correct node has stated.
 ///
 /// *Declared.* The faulty members and the rogue clients are those that a line declared so. There is one
 /// client for each number from 0 to 1,024. What was sent, what was accepted and each diary only grow. A

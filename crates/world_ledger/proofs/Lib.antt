@@ -1,3 +1,4 @@
 pub mod LedgerLaws
+pub mod Choosing
 pub mod StatedLaws
 pub mod ClaimLaws

@@ -1,3 +1,4 @@
 pub mod Ledgers
+pub mod Choices
 pub mod Statements
 pub mod Claims

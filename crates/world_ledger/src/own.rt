@@ -117,6 +117,7 @@ fn keep_in(
         Message::Ask(request) => keep(alloc, ring, origin, request, found),
         Message::Vote(ballot) => keep(alloc, ring, origin, ballot, found),
         Message::Reply(answer) => keep(alloc, ring, origin, answer, found),
+        Message::ViewTold(info) => keep(alloc, ring, origin, info, found),
         Message::Propose(_)
         | Message::Stop(_)
         | Message::StopData(_)

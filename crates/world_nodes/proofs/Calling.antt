@@ -6,7 +6,7 @@ use Rattle.smart_statements.specs.declared.entry.NodeEvent.{NodeEvent}
 use Rattle.smart_statements.specs.declared.entry.NodeEvent.TheVariants.{Firm}
 use Rattle.node_rules.specs.Nodes.{next_place, view_of}
 use Rattle.node_rules.specs.Steps.{Outcome, leaving}
-use Rattle.world_rules.specs.Worlds.{Course, Host, World, disk_called, stepped, sends_all, meets, snapshot_in, hears_firm, host_after, chosen_with, told_drop, told_fired}
+use Rattle.world_rules.specs.Worlds.{Course, Host, World, disk_called, stepped, sends_all, meets, snapshot_in, hears_firm, host_after, chosen_with, ending_few, told_drop, told_fired}
 use Rattle.world_hosts.specs.Hearing.{firmness}
 use Rattle.world_nodes.specs.Calling.{steps_if, calls}
 
@@ -37,6 +37,7 @@ stepped_set {S = S} course w i h o =
       hosts = hs;
       chosen = chosen_with w.chosen (next_place o.node) o.node.waiting;
       told = w.told ++ (told_drop h.node.id o.dropped ++ flat_map (told_fired h.node.id) o.fired);
+      ending = ending_few w.view (chosen_with w.chosen (next_place o.node) o.node.waiting) w.faulty w.ending;
     })
     (flat_map snapshot_in o.fired))
     (leaving o.node.firm o.node.held)) (set_twice w.hosts i h (host_after course h o))

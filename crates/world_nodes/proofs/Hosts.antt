@@ -4,11 +4,11 @@ use Rattle.std.specs.Prelude.{slice_get, slice_set, get_or, Result, Ok, Err, IfO
 use Rattle.std.specs.List.{flat_map}
 use Rattle.std.proofs.lemmas.Option.{slice_get-get_or}
 use Rattle.smart_service.specs.Services.{Meaning}
-use Rattle.smart_statements.specs.Batches.{Batch}
 use Rattle.smart_statements.specs.declared.entry.NodeEvent.{NodeEvent}
 use Rattle.node_rules.specs.Nodes.{next_place}
 use Rattle.node_rules.specs.Kept.{core_step}
 use Rattle.world_rules.specs.Worlds.{Host, World, core_course, host_after, chosen_with, told_drop, told_fired}
+use Rattle.world_ledger.specs.Choices.{Choices}
 use Rattle.world_rules.specs.declared.line.OutLine.{OutLine}
 use Rattle.world_nodes.specs.Idling.{stepped_in}
 use Rattle.world_nodes.proofs.Stepping.{same_host}
@@ -68,9 +68,9 @@ kept_at (Err e) w w0 i h h' d same within read is = put_back w w0 i h h' d same 
 kept_at (Ok r) w w0 i h h' d same within read is = tt
 
 -- one in which a node took a step
-pub put_step : {S : Type 0} (m : Meaning S) (event : NodeEvent) (w w0 : World S) (i : ℕ) (h h0 h' : Host S) (chosen : List Batch) (told : List OutLine) → w ≡ w0 → h0 ≡ h
+pub put_step : {S : Type 0} (m : Meaning S) (event : NodeEvent) (w w0 : World S) (i : ℕ) (h h0 h' : Host S) (chosen : Choices) (told : List OutLine) → w ≡ w0 → h0 ≡ h
     → h' ≡ host_after (core_course m) h0 (core_step m h0.node event)
-    → chosen ≡ chosen_with w.chosen (next_place (core_step m h0.node event).node) (core_step m h0.node event).node.waiting
+    → chosen ≡ record { first = w.view; list = chosen_with w.chosen (next_place (core_step m h0.node event).node) (core_step m h0.node event).node.waiting }
     → told ≡ w.told ++ (told_drop h0.node.id (core_step m h0.node event).dropped ++ flat_map (told_fired h0.node.id) (core_step m h0.node event).fired)
-    → record w { hosts = slice_set w.hosts i h'; chosen = chosen; told = told } ≡ stepped_in (core_course m) i w0 h (core_step m h.node event)
+    → record w { view = chosen.first; hosts = slice_set w.hosts i h'; chosen = chosen.list; told = told } ≡ stepped_in (core_course m) i w0 h (core_step m h.node event)
 put_step m event w w0 i h h0 h' chosen told same is host_is chosen_is told_is = rw (host_is, chosen_is, told_is, is, same) refl

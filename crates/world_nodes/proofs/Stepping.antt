@@ -8,7 +8,7 @@ use Rattle.node_rules.specs.Nodes.{view_of}
 use Rattle.node_rules.specs.Kept.{core_step}
 use Rattle.node_rules.specs.Steps.{leaving}
 use Rattle.node_rules.specs.declared.node.Held.{Held}
-use Rattle.world_rules.specs.Worlds.{core_course, Host, World, stepped, sends_all, meets, snapshot_in, host_after}
+use Rattle.world_rules.specs.Worlds.{core_course, Host, World, ending_few, stepped, sends_all, meets, snapshot_in, host_after}
 use Rattle.world_hosts.specs.Hearing.{is_idle}
 use Rattle.world_nodes.specs.Idling.{steps, stepped_in, is_idle_at}
 
@@ -20,13 +20,14 @@ same_host xs i h g there too = put (sym there ∙ too)
     put same = cc
 
 -- a step at an index, by what each part of it says
-pub stepped_at : {S : Type 0} (m : Meaning S) (i : ℕ) (event : NodeEvent) (w x w' : World S) (h : Host S) (id : ℕ) (marked : List (List ℕ)) (messages : List Held) → slice_get w.hosts i ≡ Some h → id ≡ h.node.id
+pub stepped_at : {S : Type 0} (m : Meaning S) (i : ℕ) (event : NodeEvent) (w x y w' : World S) (h : Host S) (id : ℕ) (marked : List (List ℕ)) (messages : List Held) → slice_get w.hosts i ≡ Some h → id ≡ h.node.id
     → x ≡ stepped_in (core_course m) i w h (core_step m h.node event)
+    → y ≡ record x { ending = ending_few x.view x.chosen x.faulty x.ending }
     → marked ≡ flat_map snapshot_in (core_step m h.node event).fired
     → messages ≡ leaving (core_step m h.node event).node.firm (core_step m h.node event).node.held
-    → w' ≡ sends_all id (view_of (host_after (core_course m) h (core_step m h.node event)).node) (meets x marked) messages → w' ≡ steps (core_course m) i event w (slice_get w.hosts i)
+    → w' ≡ sends_all id (view_of (host_after (core_course m) h (core_step m h.node event)).node) (meets y marked) messages → w' ≡ steps (core_course m) i event w (slice_get w.hosts i)
 unfolding stepped
-stepped_at m i event w x w' h id marked messages there id_is x_is marked_is messages_are is = rw (is, x_is, marked_is, messages_are, id_is, there) refl
+stepped_at m i event w x y w' h id marked messages there id_is x_is y_is marked_is messages_are is = rw (is, y_is, x_is, marked_is, messages_are, id_is, there) refl
 
 -- whether it was idle
 pub idle_at : {S : Type 0} (m : Meaning S) (event : NodeEvent) (xs : List (Host S)) (i : ℕ) (h : Host S) (idle : Bool) → slice_get xs i ≡ Some h → idle ≡ is_idle (core_step m h.node event).fired

@@ -133,7 +133,7 @@ fn resume_host<S: Service>(
     lives::resume(
         world.alloc,
         &mut world.hosts[i],
-        &world.view,
+        world.chosen.first(),
         world.period,
         world.ring.get(),
     )

@@ -54,8 +54,8 @@ fn step_in<S: Service>(
     Ok((left, marked))
 }
 
-/// Makes a step of the running node at an index, and tells whether no rule fired. Error: want of
-/// memory.
+/// Makes a step of the running node at an index, and tells whether no rule fired. If a batch that it
+/// decided makes a view of which too many members are faulty, the play ends. Error: want of memory.
 pub fn step_at<S: Service>(
     world: &mut WorldState<S>,
     i: usize,
@@ -68,6 +68,7 @@ pub fn step_at<S: Service>(
 {
     let id = world.hosts()[i].id();
     let (left, marked) = step_in(world, i, event)?;
+    world.keep_few();
     world.leave(id, i, marked, left.messages)?;
     Ok(left.idle)
 }

@@ -7,7 +7,7 @@ use Rattle.smart_statements.specs.Forms.{SignedBy}
 use Rattle.smart_statements.specs.Kinds.{requests, proposals, ballots, answers}
 use Rattle.smart_statements.specs.Batches.{Batch, batch_text}
 use Rattle.smart_statements.specs.Reports.{reports, marks}
-use Rattle.smart_messages.specs.Regencies.{stops, syncs}
+use Rattle.smart_messages.specs.Regencies.{stops, syncs, view_infos}
 use Rattle.smart_messages.specs.Messages.{spelling, decoded, request_in, proposal_in, report_in, mark_in, decision_in}
 use Rattle.smart_statements.specs.declared.report.Evidence.{Evidence}
 use Rattle.smart_statements.specs.declared.report.Evidence.TheVariants as evidence
@@ -166,6 +166,7 @@ injected_bytes sent (forms.StopData signer view regency decision lock) = report_
 injected_bytes sent (forms.Sync signer view regency numbers) =
     if nat_lt (length numbers) (2 ^ 16) then option_and_then (sync_bytes signer view regency) (reports_at sent numbers) else None
 injected_bytes sent (forms.Reply signer answer) = Some (spelling (Reply (signed answers group_secret signer answer)))
+injected_bytes sent (forms.View signer view) = Some (spelling (changes.ViewTold (signed view_infos group_secret signer (record { view = view }))))
 injected_bytes sent (forms.Mark signer place digest) =
     Some (spelling (changes.Mark (signed marks group_secret signer (record { place = place; digest = digest }))))
 injected_bytes sent (forms.StateAsk member place fetch) = Some (spelling (changes.StateAsk (record { member = member; place = place; fetch = fetch })))

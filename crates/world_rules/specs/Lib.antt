@@ -9,6 +9,7 @@ pub mod Fronts
 pub mod Worlds
 pub mod Plays
 pub mod Knowing
+pub mod InForce
 pub mod Stated
 pub mod Texts
 pub mod Scripts

@@ -25,6 +25,7 @@ has_party w (parties.Client id) = true
 unfoldable pub is_there : {S : Type 0} → World S → Line → Bool
 is_there w lines.Nothing = true
 is_there w (lines.Ask client op) = true
+is_there w (lines.Change op) = true
 is_there w (lines.Again client) = true
 is_there w (lines.Tell from to) = true
 is_there w (lines.Flow members) = list_all (has_member w) members
@@ -48,6 +49,7 @@ is_there w (lines.Inject form) = is_some (injected_bytes w.sent form)
 unfoldable pub line_played : {S : Type 0} → Course S → World S → Line → World S
 line_played course w lines.Nothing = w
 line_played course w (lines.Ask client op) = asks client op w
+line_played course w (lines.Change op) = asks 0 op w
 line_played course w (lines.Again client) = repeats client w
 line_played course w (lines.Tell from to) = tells from to w
 line_played course w (lines.Flow members) = flows course members w

@@ -31,6 +31,10 @@ is_among ids id = list_any (λ x. x == id) ids
 abbrev pub too_many : View → List ℕ → Bool
 too_many view faulty = nat_lt view.f (length (filter (is_among faulty) view.members))
 
+-- faulty members that are too many of one of some views
+abbrev pub too_many_in : List View → List ℕ → Bool
+too_many_in views faulty = list_any (λ v. too_many v faulty) views
+
 -- the second premise: nothing is forged
 
 -- a statement as its signer and its bytes

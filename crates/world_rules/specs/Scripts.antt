@@ -3,10 +3,12 @@ use Rattle.std.specs.Prelude.{ℕ, zero, suc, ◌+◌, ◌-◌, ◌*◌, ◌^◌
 use Rattle.std.specs.List.{list_all}
 use Rattle.smart_base.specs.Decimals.{number_of}
 use Rattle.smart_base.specs.Lists.{same_bytes}
-use Rattle.smart_base.specs.Views.{View}
+use Rattle.smart_base.specs.Views.{View, is_view}
+use Rattle.reconfig.specs.Changes.{change_text, is_brief}
+use Rattle.reconfig.specs.declared.change.Change.{Change}
 use Rattle.smart_base.specs.declared.party.Party.{Party}
 use Rattle.smart_base.specs.declared.party.Party.TheVariants as parties
-use Rattle.smart_base.specs.declared.limits.TheConstants.{FAULTY, LAST_CLIENT, LAST_PERIOD, MARKS, LINE_BYTES, MEMBERS, MESSAGES, PAYLOAD_BYTES}
+use Rattle.smart_base.specs.declared.limits.TheConstants.{FAULTY, LAST_CLIENT, LAST_PERIOD, LAST_VIEW, MARKS, LINE_BYTES, MEMBERS, MESSAGES, PAYLOAD_BYTES}
 use Rattle.world_rules.specs.declared.line.App.{App}
 use Rattle.world_rules.specs.declared.line.App.TheVariants as apps
 use Rattle.smart_statements.specs.declared.statement.Slot.{Slot}
@@ -66,8 +68,13 @@ number_in least most word = in_range least most (number_of word)
 abbrev pub member_of : List ℕ → Option ℕ
 member_of word = number_in 1 65535 word
 
+-- a client: the view manager, which is client 0, or another one
 abbrev pub client_of : List ℕ → Option ℕ
-client_of word = number_in 1 LAST_CLIENT word
+client_of word = number_in 0 LAST_CLIENT word
+
+-- a client that asks for operations of the service: any but the view manager
+abbrev pub asker_of : List ℕ → Option ℕ
+asker_of word = number_in 1 LAST_CLIENT word
 
 -- the values of words, if each word gives one
 abbrev pub with_value : {A : Type 0} → Option A → Option (List A) → Option (List A)
@@ -107,7 +114,25 @@ ask_with op (Some client) = if nat_le (length op) PAYLOAD_BYTES then Ok (lines.A
 abbrev pub ask_line : List ℕ → List (List ℕ) → Result Line Kind
 ask_line bytes [] = Err kinds.Count
 ask_line bytes (client ∷ []) = Err kinds.Count
-ask_line bytes (client ∷ op ∷ more) = ask_with (behind_space (behind_space bytes)) (client_of client)
+ask_line bytes (client ∷ op ∷ more) = ask_with (behind_space (behind_space bytes)) (asker_of client)
+
+-- the line `change`: how many members may be faulty from then on, and all members from then on. These are any numbers of 16 bits, in any order.
+-- The operation that asks for the change has at most 4,096 bytes.
+abbrev pub changed_member_of : List ℕ → Option ℕ
+changed_member_of word = number_in 0 65535 word
+
+abbrev pub change_if : Change → Result Line Kind
+change_if c = if is_brief c then Ok (lines.Change (change_text c)) else Err kinds.Form
+
+abbrev pub change_with : Option ℕ → Option (List ℕ) → Result Line Kind
+change_with None members = Err kinds.Number
+change_with (Some f) None = Err kinds.Number
+change_with (Some f) (Some members) = change_if (record { f = f; members = members })
+
+abbrev pub change_line : List (List ℕ) → Result Line Kind
+change_line [] = Err kinds.Count
+change_line (f ∷ []) = Err kinds.Count
+change_line (f ∷ member ∷ more) = change_with (number_in 0 255 f) (each_word changed_member_of (member ∷ more))
 
 abbrev pub again_line : List (List ℕ) → Result Line Kind
 again_line [] = Err kinds.Count
@@ -346,7 +371,7 @@ abbrev pub ask_form : List ℕ → List (List ℕ) → Result Injection Kind
 ask_form bytes words =
     if nat_le 4 (length words)
     then form_of (λ ns. with_text (forms.Ask (nth ns 0) (nth ns 1) (nth ns 2)) (behind_spaces 5 bytes))
-    (numbers_in (range 1 LAST_CLIENT ∷ places ∷ range 0 (2 ^ 64 - 1) ∷ []) words)
+    (numbers_in (range 0 LAST_CLIENT ∷ places ∷ range 0 (2 ^ 64 - 1) ∷ []) words)
     else Err kinds.Count
 
 -- propose S V K R NUM..: 1 to 64 requests
@@ -419,7 +444,35 @@ abbrev pub reply_form : List ℕ → List (List ℕ) → Result Injection Kind
 reply_form bytes words =
     if nat_le 7 (length words)
     then form_of (λ ns. with_text (λ text. forms.Reply (nth ns 0) (answer_in ns text)) (behind_spaces 8 bytes))
-    (numbers_in (members ∷ small_numbers ∷ places ∷ range 0 65535 ∷ range 1 LAST_CLIENT ∷ places ∷ []) words)
+    (numbers_in (members ∷ small_numbers ∷ places ∷ range 0 65535 ∷ range 0 LAST_CLIENT ∷ places ∷ []) words)
+    else Err kinds.Count
+
+-- the f that a word states; 0 if it is no number to 10
+abbrev pub f_stated : Option ℕ → ℕ
+f_stated None = 0
+f_stated (Some f) = f
+
+abbrev pub f_of : List (List ℕ) → ℕ
+f_of [] = 0
+f_of (word ∷ words) = f_stated (number_in 0 FAULTY word)
+
+-- whether S V START F stand before 3F+1 to 31 members
+abbrev pub is_view_form : List (List ℕ) → Bool
+is_view_form words = nat_le (4 + (3 * f_of (drop 3 words) + 1)) (length words) && nat_le (length words) (4 + MEMBERS)
+
+-- an injection of a view, if its parts make one: no member is named twice, and they ascend
+abbrev pub view_if : ℕ → View → Result Injection Kind
+view_if signer view = if is_view view then Ok (forms.View signer view) else Err kinds.Number
+
+abbrev pub view_with : List ℕ → Option (List ℕ) → Result Injection Kind
+view_with ns None = Err kinds.Number
+view_with ns (Some ids) = view_if (nth ns 0) (record { number = nth ns 1; start = nth ns 2; f = nth ns 3; members = ids })
+
+-- view S V START F M..
+abbrev pub view_form : List (List ℕ) → Result Injection Kind
+view_form words =
+    if is_view_form words
+    then form_of (λ ns. view_with ns (each_word member_of (drop 4 words))) (numbers_in (members ∷ range 0 LAST_VIEW ∷ range 1 (2 ^ 63) ∷ range 0 FAULTY ∷ []) words)
     else Err kinds.Count
 
 -- a digest of 32 bytes, by pairs of digits
@@ -505,6 +558,7 @@ form_by bytes (word ∷ words) =
     else if same_bytes word (codes "stopdata") then stopdata_form words
     else if same_bytes word (codes "sync") then sync_form words
     else if same_bytes word (codes "reply") then reply_form bytes words
+    else if same_bytes word (codes "view") then view_form words
     else if same_bytes word (codes "mark") then mark_form words
     else if same_bytes word (codes "stateask") then stateask_form words
     else if same_bytes word (codes "offer") then offer_form words
@@ -520,6 +574,7 @@ abbrev pub line_by : List ℕ → List (List ℕ) → Result Line Kind
 line_by bytes [] = Err kinds.Word
 line_by bytes (word ∷ words) =
     if same_bytes word (codes "ask") then ask_line bytes words
+    else if same_bytes word (codes "change") then change_line words
     else if same_bytes word (codes "again") then again_line words
     else if same_bytes word (codes "told") then told_line words
     else if same_bytes word (codes "flow") then flow_line words

@@ -8,15 +8,17 @@ use Rattle.store_laws.specs.Restored.{restores}
 use Rattle.world_rules.specs.Crashes.{bytes_held}
 use Rattle.world_rules.specs.Fronts.{checkpoint_place}
 use Rattle.std.specs.List.{flat_map}
-use Rattle.smart_base.specs.Views.{View}
+use Rattle.smart_base.specs.Views.{View, present}
 use Rattle.smart_statements.specs.Batches.{Batch}
 use Rattle.vote_book.specs.declared.entry.LogEntry.{LogEntry}
+use Rattle.replica_rules.specs.Replicas.{views_after}
 use Rattle.replica_rules.specs.Seals.{digest_of}
 use Rattle.agreement_laws.specs.Statements.{Statement, statements}
 use Rattle.agreement_laws.specs.Law.{Witnessed}
 use Rattle.agreement_laws.specs.Lists.{AllCertified}
 use Rattle.world_rules.specs.Secrets.{group_secret}
 use Rattle.world_rules.specs.Premises.{is_among}
+use Rattle.world_rules.specs.InForce.{IsInForce}
 use Rattle.world_rules.specs.Worlds.{Host, World, host_of}
 use Rattle.world_rules.specs.declared.message.Content.{Content}
 use Rattle.world_rules.specs.declared.message.Content.TheVariants as contents
@@ -40,10 +42,13 @@ diary_of (Some h) = h.life.diary
 abbrev pub diary : {S : Type 0} → World S → ℕ → List LogEntry
 diary w member = diary_of (host_of w.hosts member)
 
--- batches of which each has a decision at its place among what has been stated; the first stands at place 1. INTERIM(views): all are decided
--- in one view
+-- the view in force behind some batches
+abbrev pub view_behind : View → List Batch → View
+view_behind view front = present (views_after view front)
+
+-- batches of which each has a decision at its place among what has been stated, in the view that those before it make; the first stands at place 1
 abbrev pub AreDecided : List Statement → View → List Batch → Type 0
-AreDecided stated view batches = AllCertified group_secret digest_of stated (λ front. view) [] batches
+AreDecided stated view batches = AllCertified group_secret digest_of stated (view_behind view) [] batches
 
 -- A host with its diary. While its node runs, the firm part of the node's book is the cut of the diary at the place of the checkpoint with
 -- which this life began, 0 without one. After its member has crashed, the devices restore the cut of the diary at the place of their newest
@@ -54,8 +59,9 @@ pub record HasDiary {S : Type 0} (h : Host S) : Type 0 where
   pub down : h.up ≡ false → (restores (bytes_held h.store)).entries ≡ map entry_text (cut_at (checkpoint_place (restores (bytes_held h.store)).present) h.life.diary)
   pub down_made : h.up ≡ false → 0 < checkpoint_place (restores (bytes_held h.store)).present → HasMade h.life.diary (checkpoint_place (restores (bytes_held h.store)).present)
 
--- A world in which the diaries of members witness what they have stated. Each chosen batch has a decision among what has been stated.
+-- A world in which the diaries of members witness what they have stated, in each view in which members decide. Each chosen batch has a decision among
+-- what has been stated.
 pub record IsWitnessed {S : Type 0} (w : World S) : Type 0 where
   pub diaries : Each HasDiary w.hosts
-  pub witnessed : Witnessed group_secret digest_of w.view (is_among w.faulty) (diary w) (stated w.sent)
+  pub witnessed : (v : View) → IsInForce w v → Witnessed group_secret digest_of v (is_among w.faulty) (diary w) (stated w.sent)
   pub chosen : AreDecided (stated w.sent) w.view w.chosen

@@ -2,8 +2,7 @@
 use Rattle.std.specs.Prelude.{ℕ, zero, suc, ◌+◌, ◌^◌, ◌==◌, nat_lt, take, not, ◌||◌, false, List, [], ◌∷◌, ◌++◌, length, map, filter, drop, if◌then◌else◌, Option, Some, None, is_some, option_map, slice_get, slice_set, insert, Result, Ok, Err, nat_le, ◌&&◌, ◌-◌, Bool, true}
 use Rattle.std.specs.List.{flat_map, list_any, position}
 use Rattle.smart_base.specs.Lists.{or_else}
-use Rattle.smart_base.specs.Views.{View}
-use Rattle.smart_statements.specs.Forms.{SignedBy}
+use Rattle.smart_base.specs.Views.{View, present}
 use Rattle.smart_statements.specs.Kinds.{requests}
 use Rattle.smart_statements.specs.Batches.{Batch}
 use Rattle.smart_messages.specs.Messages.{decoded}
@@ -12,7 +11,6 @@ use Rattle.message_words.specs.Words.{summary_of}
 use Rattle.message_words.specs.declared.words.Summary.{Summary}
 use Rattle.message_words.specs.declared.words.Summary.TheVariants as summaries
 use Rattle.smart_statements.specs.declared.statement.Request.{Request}
-use Rattle.smart_statements.specs.declared.statement.Answer.{Answer}
 use Rattle.smart_messages.specs.declared.message.Message.TheVariants.{Ask}
 use Rattle.smart_statements.specs.declared.entry.NodeEvent.{NodeEvent}
 use Rattle.smart_statements.specs.declared.entry.NodeEvent.TheVariants.{Arrive, Tick, Deliver, Firm}
@@ -20,6 +18,7 @@ use Rattle.smart_base.specs.declared.party.Party.{Party}
 use Rattle.smart_base.specs.declared.party.Party.TheVariants as parties
 use Rattle.smart_base.specs.declared.limits.TheConstants.{CLIENTS, MESSAGES, PAYLOAD_BYTES}
 use Rattle.smart_service.specs.Services.{Meaning}
+use Rattle.replica_rules.specs.Replicas.{views_after}
 use Rattle.replica_rules.specs.Seals.{signed}
 use Rattle.node_rules.specs.Nodes.{Node, next_place, view_of, regency_of}
 use Rattle.node_rules.specs.Deliveries.{Segment, segment_after}
@@ -55,10 +54,12 @@ use Rattle.world_rules.specs.declared.crash.NotAnImage as stores
 use Rattle.node_rules.specs.Reopening.{damage_of, reopened_from}
 use Rattle.world_rules.specs.Repeats.{until_rest, each_from}
 use Rattle.world_rules.specs.Secrets.{group_secret}
-use Rattle.world_rules.specs.Premises.{is_among, too_many, is_forged, texts_in, clash, collides, texts_met, marked_with, all_marked, bytes_of}
+use Rattle.world_rules.specs.Premises.{is_among, too_many_in, is_forged, texts_in, clash, collides, texts_met, marked_with, all_marked, bytes_of}
 use Rattle.world_rules.specs.Injections.{injected}
-use Rattle.client_quorum.specs.Clients.{fresh, request_of, asking, learning, after_heard, reply_read}
-use Rattle.world_rules.specs.Clients.{heard}
+use Rattle.client_quorum.specs.Clients.{fresh, request_of, asking, learning}
+use Rattle.client_quorum.specs.Readings.{word_read, after_word}
+use Rattle.client_quorum.specs.declared.client.Word.{Word}
+use Rattle.world_rules.specs.Clients.{heard_word}
 use Rattle.client_quorum.specs.declared.client.Client.{Client}
 use Rattle.client_quorum.specs.declared.client.Acceptance.{Acceptance}
 use Rattle.client_quorum.specs.declared.client.Ignored.TheVariants as reasons
@@ -69,6 +70,7 @@ use Rattle.world_rules.specs.declared.message.Origin.TheVariants as origins
 use Rattle.world_rules.specs.declared.message.Sent.{Sent}
 use Rattle.world_rules.specs.declared.message.Ending.{Ending}
 use Rattle.world_rules.specs.declared.message.Ending.TheVariants.{Limit, Premise}
+use Rattle.world_rules.specs.declared.message.Premise as premises
 use Rattle.world_rules.specs.declared.message.Premise.TheVariants.{TooManyFaulty, Forged, Collision, NotAnImage}
 use Rattle.world_rules.specs.declared.message.Content.{Content}
 use Rattle.world_rules.specs.declared.message.Content.TheVariants as contents
@@ -149,6 +151,16 @@ pub record World (S : Type 0) : Type 0 where
 abbrev pub is_halted : {S : Type 0} → World S → Bool
 is_halted w = is_some w.ending
 
+-- The ending of a play in which a premise is broken: the first one that was broken is told. A limit that was met before gives way.
+abbrev pub breaking : premises.Premise → Option Ending → Option Ending
+breaking premise (Some (Premise first)) = Some (Premise first)
+breaking premise (Some Limit) = Some (Premise premise)
+breaking premise None = Some (Premise premise)
+
+-- the ending of a play whose chosen list grew: if too many members of one of its views are faulty, a premise is broken
+abbrev pub ending_few : View → List Batch → List ℕ → Option Ending → Option Ending
+ending_few view chosen faulty ending = if too_many_in (views_after view chosen) faulty then breaking TooManyFaulty ending else ending
+
 -- messages that leave
 
 -- a transcript line added to those of the present script line
@@ -164,7 +176,7 @@ summary (contents.Raw bytes) = summaries.Raw
 -- also if no number is left.
 unfoldable pub posts : {S : Type 0} → World S → Sent → World S
 posts w s =
-    if collides (texts_met w.sent w.marked) (texts_in s.content) then record w { ending = Some (Premise Collision) }
+    if collides (texts_met w.sent w.marked) (texts_in s.content) then record w { ending = breaking Collision w.ending }
     else if nat_lt (length w.sent) MESSAGES
     then record w {
       sent = w.sent ++ s ∷ [];
@@ -172,15 +184,28 @@ posts w s =
     }
     else record w { ending = or_else w.ending (Some Limit) }
 
--- the parties that hear a message for a target: the members of its sender's view, one member, or a client
-abbrev pub heard_by : View → Target → List Party
-heard_by view targets.View = map (λ (id : ℕ). parties.Member id) view.members
-heard_by view (targets.Node id) = parties.Member id ∷ []
-heard_by view (targets.Client id) = parties.Client id ∷ []
+-- a client that has asked
+abbrev pub has_asked : Client → Bool
+has_asked c = nat_lt 0 c.last
+
+-- the number of a client, if it has asked
+abbrev pub asked_by : Client → List ℕ
+asked_by c = if has_asked c then c.id ∷ [] else []
+
+-- the clients that have asked, by ascending number
+abbrev pub asked_in : List Client → List ℕ
+asked_in clients = flat_map asked_by clients
+
+-- the parties that hear a message for a target: the members of its sender's view, one member, a client, or all clients that have asked
+abbrev pub heard_by : View → List ℕ → Target → List Party
+heard_by view asked targets.View = map (λ (id : ℕ). parties.Member id) view.members
+heard_by view asked (targets.Node id) = parties.Member id ∷ []
+heard_by view asked (targets.Client id) = parties.Client id ∷ []
+heard_by view asked targets.Clients = map (λ (id : ℕ). parties.Client id) asked
 
 -- the world after a message was sent for a target, from a sender in a view
 abbrev pub sends : {S : Type 0} → World S → Origin → View → Target → Message → World S
-sends w origin view to message = posts w (record { origin = origin; to = heard_by view to; content = contents.Message message })
+sends w origin view to message = posts w (record { origin = origin; to = heard_by view (asked_in w.clients) to; content = contents.Message message })
 
 -- the world after a node's messages left, in order
 abbrev pub sends_all : {S : Type 0} → ℕ → View → World S → List Held → World S
@@ -191,7 +216,7 @@ sends_all id view w (h ∷ hs) = sends_all id view (sends w (origins.Node id) vi
 
 -- the ending of a play in which one more snapshot is met: one that clashes with a text that was met before it ends the play
 abbrev pub ending_with : List Sent → List (List ℕ) → Option Ending → List ℕ → Option Ending
-ending_with sent marked ending snapshot = if list_any (clash snapshot) (texts_met sent marked) then Some (Premise Collision) else ending
+ending_with sent marked ending snapshot = if list_any (clash snapshot) (texts_met sent marked) then breaking Collision ending else ending
 
 -- the ending of a play in which several more are met, in order
 abbrev pub all_ending : List Sent → List (List ℕ) → Option Ending → List (List ℕ) → Option Ending
@@ -207,6 +232,7 @@ abbrev pub snapshot_in : Fired → List (List ℕ)
 snapshot_in (fires.Installed place) = []
 snapshot_in fires.Spoiled = []
 snapshot_in (fires.Delivered d) = []
+snapshot_in (fires.Viewed number) = []
 snapshot_in (fires.Marked snapshot) = snapshot ∷ []
 snapshot_in (fires.Adopted s) = []
 snapshot_in fires.Joined = []
@@ -231,6 +257,7 @@ abbrev pub told_fired : ℕ → Fired → List OutLine
 told_fired id (fires.Installed place) = outs.Installed id place ∷ []
 told_fired id fires.Spoiled = []
 told_fired id (fires.Delivered d) = outs.Delivered id d.place d.executed ∷ []
+told_fired id (fires.Viewed number) = outs.View id number ∷ []
 told_fired id (fires.Marked snapshot) = []
 told_fired id (fires.Adopted s) = outs.Synced id s.view s.regency s.base (is_some s.bound) ∷ []
 told_fired id fires.Joined = []
@@ -290,7 +317,8 @@ host_after course h o = record h {
 }
 
 -- The world after a step of a node. Its transcript tells the step's events first, and then the messages that leave. The view is the node's
--- after the step. What the step marks is met before the messages get their numbers.
+-- after the step. A decision may make a view of which too many are faulty, and what the step marks is met: both come before the messages get
+-- their numbers.
 unfoldable pub stepped : {S : Type 0} → Course S → World S → ℕ → Host S → Outcome S → World S
 stepped course w i h o =
     sends_all h.node.id (view_of o.node)
@@ -299,6 +327,7 @@ stepped course w i h o =
       hosts = slice_set w.hosts i (host_after course h o);
       chosen = chosen_with w.chosen (next_place o.node) o.node.waiting;
       told = w.told ++ (told_drop h.node.id o.dropped ++ flat_map (told_fired h.node.id) o.fired);
+      ending = ending_few w.view (chosen_with w.chosen (next_place o.node) o.node.waiting) w.faulty w.ending;
     })
     (flat_map snapshot_in o.fired))
     (leaving o.node.firm o.node.held)
@@ -452,47 +481,51 @@ give_one course members bytes member w = at_index (at_listed members (gives cour
 
 -- clients
 
--- the transcript line of what a client made of a reply
+-- the transcript line of what a client made of a member's word
 abbrev pub told_heard : ℕ → Heard → OutLine
 told_heard id (hears.Counted count need) = outs.Counted id count need
 told_heard id (hears.Accepted a) = outs.Accepted id a.request.seq a.place a.index a.reply
+told_heard id (hears.Viewed count need) = outs.Viewed id count need
+told_heard id (hears.Moved number) = outs.Moved id number
 told_heard id (hears.Ignored why) = outs.Ignored id why
 
--- the acceptance that a client made of a reply, if it made one
+-- the acceptance that a client made of a member's word, if it made one
 abbrev pub acceptance_in : Heard → List Acceptance
 acceptance_in (hears.Counted count need) = []
 acceptance_in (hears.Accepted a) = a ∷ []
+acceptance_in (hears.Viewed count need) = []
+acceptance_in (hears.Moved number) = []
 acceptance_in (hears.Ignored why) = []
 
--- the world after a client made something of a reply
-unfoldable pub hearing : {S : Type 0} → World S → ℕ → Client → SignedBy Answer → Heard → World S
-hearing w i c a h =
+-- the world after a client made something of a member's word
+unfoldable pub hearing : {S : Type 0} → World S → ℕ → Client → Word → Heard → World S
+hearing w i c word h =
     record w {
-      clients = slice_set w.clients i (after_heard c a h);
+      clients = slice_set w.clients i (after_word c word h);
       accepted = w.accepted ++ acceptance_in h;
       told = w.told ++ told_heard c.id h ∷ [];
     }
 
--- the world after a client heard bytes that were read; a client ignores everything but replies
-abbrev pub client_hears : {S : Type 0} → World S → ℕ → Client → Option (SignedBy Answer) → World S
+-- the world after a client heard bytes that were read; a client ignores everything but members' words
+abbrev pub client_hears : {S : Type 0} → World S → ℕ → Client → Option Word → World S
 client_hears w i c None = telling w (outs.Ignored c.id reasons.Unread)
-client_hears w i c (Some a) = hearing w i c a (heard w.view c a)
+client_hears w i c (Some word) = hearing w i c word (heard_word c word)
 
 abbrev pub hears_bytes : {S : Type 0} → World S → ℕ → List ℕ → Option Client → World S
 hears_bytes w i bytes None = w
-hears_bytes w i bytes (Some c) = client_hears w i c (reply_read (decoded bytes))
+hears_bytes w i bytes (Some c) = client_hears w i c (word_read (decoded bytes))
 
 -- the world after a client heard the bytes of a message
 unfoldable pub client_takes : {S : Type 0} → ℕ → List ℕ → World S → World S
 client_takes i bytes w = if is_halted w then w else hears_bytes w i bytes (slice_get w.clients i)
 
--- the world after a client asked, if none of its requests waits. It has at most 2^63 - 1 requests, and an operation has at most 4,096
--- bytes.
+-- The world after a client asked the members of its present view, if none of its requests waits. It has at most 2^63 - 1 requests, and an
+-- operation has at most 4,096 bytes.
 abbrev pub client_asks : {S : Type 0} → World S → ℕ → Client → List ℕ → Option Request → World S
 client_asks w i c op (Some q) = telling w (outs.Busy c.id q.seq)
 client_asks w i c op None =
     if nat_lt (c.last + 1) (2 ^ 63) && nat_le (length op) PAYLOAD_BYTES
-    then sends (record w { clients = slice_set w.clients i (asking c (request_of c op)) }) (origins.Client c.id) w.view targets.View
+    then sends (record w { clients = slice_set w.clients i (asking c (request_of c op)) }) (origins.Client c.id) (present c.views) targets.View
     (Ask (signed requests group_secret c.id (request_of c op)))
     else w
 
@@ -507,7 +540,7 @@ asks i op w = if is_halted w then w else ask_found w i op (slice_get w.clients i
 -- the world after a client sent its waiting request again
 abbrev pub client_repeats : {S : Type 0} → World S → Client → Option Request → World S
 client_repeats w c None = telling w (outs.IdleClient c.id)
-client_repeats w c (Some q) = sends w (origins.Client c.id) w.view targets.View (Ask (signed requests group_secret c.id q))
+client_repeats w c (Some q) = sends w (origins.Client c.id) (present c.views) targets.View (Ask (signed requests group_secret c.id q))
 
 abbrev pub repeat_found : {S : Type 0} → World S → Option Client → World S
 repeat_found w None = w
@@ -721,7 +754,7 @@ shown_host faulty h =
 
 -- the line that shows a client, if it has asked
 abbrev pub shown_client : Client → List OutLine
-shown_client c = if nat_lt 0 c.last then outs.Seen c.id c.seen ∷ [] else []
+shown_client c = if has_asked c then outs.Seen c.id c.seen ∷ [] else []
 
 -- the world after all hosts and clients were shown
 abbrev pub shows : {S : Type 0} → World S → World S
@@ -729,9 +762,9 @@ shows w = telling_all w (flat_map (shown_host w.faulty) w.hosts ++ flat_map show
 
 -- members and clients that break the rules
 
--- the world with more faulty members, unless they are more than f
+-- the world with more faulty members, unless they are more than f in one of the views behind the chosen list
 abbrev pub with_faulty : {S : Type 0} → World S → List ℕ → World S
-with_faulty w faulty = if too_many w.view faulty then record w { ending = Some (Premise TooManyFaulty) } else record w { faulty = faulty }
+with_faulty w faulty = if too_many_in (views_after w.view w.chosen) faulty then record w { ending = Some (Premise TooManyFaulty) } else record w { faulty = faulty }
 
 abbrev pub turns_faulty : {S : Type 0} → World S → ℕ → World S
 turns_faulty w member = if is_gone w member then w else with_faulty w (w.faulty ++ member ∷ [])
@@ -811,10 +844,10 @@ adds_node course member w = if is_halted w then w else adds_unless course member
 
 -- the first clients
 
--- clients that have not asked: so many, from a number on
-unfoldable pub clients_from : ℕ → ℕ → List Client
-clients_from zero i = []
-clients_from (suc count) i = fresh i ∷ clients_from count (i + 1)
+-- clients that have not asked, and know a first view: so many, from a number on
+unfoldable pub clients_from : View → ℕ → ℕ → List Client
+clients_from view zero i = []
+clients_from view (suc count) i = fresh view i ∷ clients_from view count (i + 1)
 
 -- the world before the first line of a script
 abbrev pub begun : {S : Type 0} → Meaning S → Header → World S
@@ -823,7 +856,7 @@ begun m g =
       view = g.view;
       period = g.period;
       hosts = hosts_from m g.view g.period g.view.members;
-      clients = clients_from CLIENTS 0;
+      clients = clients_from g.view CLIENTS 0;
       sent = [];
       marked = [];
       mark = 0;

@@ -45,6 +45,11 @@ pub enum Line {
         client: ClientId,
         op: Payload,
     },
+    /// `change F M..`: the view manager, which is client 0, asks for a view with these members, of which F
+    /// may be faulty. The operation is the one that asks for it.
+    Change {
+        op: Payload,
+    },
     /// `again C`: client C sends its waiting request again.
     Again {
         client: ClientId,
@@ -170,6 +175,11 @@ pub enum Injection {
         signer: MemberId,
         answer: Answer,
     },
+    /// `view S V START F M..`: a VIEWTOLD of this view.
+    View {
+        signer: MemberId,
+        view: View,
+    },
     /// `mark S K HEX64`: a MARK of a digest at a place.
     Mark {
         signer: MemberId,
@@ -259,6 +269,11 @@ pub enum OutLine {
         place: Place,
         executed: u64,
     },
+    /// A node's view in force has changed: the number of the new one.
+    View {
+        member: MemberId,
+        view: ViewNo,
+    },
     /// A node promised a regency.
     Promised {
         member: MemberId,
@@ -292,6 +307,18 @@ pub enum OutLine {
         place: Place,
         index: u16,
         reply: Payload,
+    },
+    /// A client counted a statement of a view: how many members of its present view stated it, and how
+    /// many are needed.
+    Viewed {
+        client: ClientId,
+        have: u64,
+        need: u64,
+    },
+    /// A client has taken over a view: its number.
+    Moved {
+        client: ClientId,
+        view: ViewNo,
     },
     /// A client ignored a message.
     Ignored {

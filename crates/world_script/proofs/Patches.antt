@@ -1,6 +1,5 @@
 -- Patches that words give one by one.
 use Rattle.std.proofs.Common.{◌≡◌, List, [], ◌∷◌, Result, Ok, Err, refl, ap, append_assoc}
-use Rattle.std.proofs.lemmas.List.{append-nil}
 use Rattle.world_rules.specs.declared.crash.Patch.{Patch}
 use Rattle.world_rules.specs.Scripts.{before, with_patch}
 use Rattle.world_rules.specs.declared.line.Kind.{Kind}

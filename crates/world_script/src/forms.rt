@@ -1,18 +1,20 @@
 //! The forms of what a script injects.
-ghost use Rattle.std.specs.Prelude.{◌≡◌, ◌<◌, ◌^◌, IfOk, Some};
-ghost use Rattle.world_rules.specs.Scripts.{ask_form, propose_form, vote_form, stop_form, message_or_none, stopdata_by, stopdata_form, sync_form, reply_form, hex_bytes, digest_by, mark_form, stateask_form, offer_form, part_form, raw_form, form_by};
+ghost use Rattle.std.specs.Prelude.{◌≡◌, ◌<◌, ◌≤◌, ◌^◌, IfOk, Some, drop};
+ghost use Rattle.smart_base.specs.declared.limits.TheConstants as constants;
+ghost use Rattle.world_rules.specs.Scripts.{number_in, f_stated, f_of, is_view_form, view_form, ask_form, propose_form, vote_form, stop_form, message_or_none, stopdata_by, stopdata_form, sync_form, reply_form, hex_bytes, digest_by, mark_form, stateask_form, offer_form, part_form, raw_form, form_by};
 
 use crate::hex::hex_bytes;
 use crate::numbers::{
-    CLIENTS, EARLY_PLACES, INDICES, MEMBERS, MESSAGES, NUMBERS, PLACES, SMALL_NUMBERS, messages_in,
-    number_in, numbers_in,
+    CLIENTS, EARLY_PLACES, FAULTY, INDICES, MEMBERS, MESSAGES, NUMBERS, PLACES, SMALL_NUMBERS,
+    STARTS, VIEWS, members_of, messages_in, number_in, numbers_in,
 };
 use crate::words::{Words, behind_spaces, payload_of};
 use smart_base::bytes::Digest32;
 use smart_base::equality::same_bytes;
-use smart_base::limits::{BATCH_REQUESTS, MARKS};
+use smart_base::limits::{self, BATCH_REQUESTS, MARKS};
 use smart_base::name::{ClientId, MemberId};
 use smart_base::number::{Place, Regency, ViewNo};
+use smart_base::view::View;
 use smart_statements::statement::{Answer, Slot, VoteKind};
 use std::alloc::{AllocError, Global};
 use world_rules::line::{Injection, Kind};
@@ -217,6 +219,66 @@ fn reply_form(
     Ok(Ok(Injection::Reply { signer, answer }))
 }
 
+/// The f that a word states; 0 if it is no number to 10.
+fn f_stated(word: &[u8]) -> usize
+    ensures stated { result ≡ f_stated (number_in 0 constants.FAULTY word.now) }
+    ensures few { result ≤ constants.FAULTY }
+{
+    match number_in(&FAULTY, word) {
+        None => 0,
+        Some(f) => f as usize,
+    }
+}
+
+/// The f that the fourth word states; 0 if there is no such word.
+fn f_of(words: &Words<'_>) -> usize
+    ensures stated { result ≡ f_of (drop 3 words.now) }
+    ensures few { result ≤ constants.FAULTY }
+{
+    let Some((_, words)) = words.split_first() else {
+        return 0;
+    };
+    let Some((_, words)) = words.split_first() else {
+        return 0;
+    };
+    let Some((_, words)) = words.split_first() else {
+        return 0;
+    };
+    match words.split_first() {
+        None => 0,
+        Some((word, _)) => f_stated(word),
+    }
+}
+
+/// Whether S V START F stand before 3F+1 to 31 members.
+fn is_view_form(words: &Words<'_>) -> bool
+    ensures { result ≡ is_view_form words.now }
+{
+    let (count, f) = (words.count(), f_of(words));
+    4 + 3 * f + 1 <= count && count <= 4 + limits::MEMBERS
+}
+
+/// `S V START F M..`.
+fn view_form(alloc: Global, mut words: Words<'_>) -> Result<Result<Injection, Kind>, AllocError>
+    ensures { IfOk result (λ form. form ≡ view_form words.entry) }
+{
+    if !is_view_form(&words) {
+        return Ok(Err(Kind::Count));
+    }
+    let Some(numbers) = numbers_in(&[MEMBERS, VIEWS, STARTS, FAULTY], &mut words) else {
+        return Ok(Err(Kind::Number));
+    };
+    let [signer, number, start, f] = numbers;
+    let Some(members) = members_of(alloc, words)? else {
+        return Ok(Err(Kind::Number));
+    };
+    let signer = MemberId::new(signer as u16);
+    match View::checked(number as u32, start, f as u8, members.into_vec()) {
+        None => Ok(Err(Kind::Number)),
+        Some(view) => Ok(Ok(Injection::View { signer, view })),
+    }
+}
+
 /// The digest that bytes are, if there are 32 of them.
 fn digest_of(bytes: &[u8]) -> Option<Digest32>
     ensures { result ≡ digest_by (Some bytes.now) }
@@ -375,6 +437,8 @@ pub fn form_by(
         sync_form(alloc, words)
     } else if same_bytes(word, b"reply") {
         reply_form(alloc, bytes, words)
+    } else if same_bytes(word, b"view") {
+        view_form(alloc, words)
     } else if same_bytes(word, b"mark") {
         mark_form(alloc, words)
     } else if same_bytes(word, b"stateask") {

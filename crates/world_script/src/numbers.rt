@@ -1,7 +1,7 @@
 //! Words that are numbers.
 ghost use Rattle.std.specs.Prelude.{◌≡◌, ◌≤◌, ◌^◌, ℕ, IfSome, IfOk, OnSome, drop};
 ghost use Rattle.smart_base.specs.declared.limits.TheConstants as constants;
-ghost use Rattle.world_rules.specs.Scripts.{number_in, member_of, client_of, numbers_in, each_word};
+ghost use Rattle.world_rules.specs.Scripts.{number_in, member_of, client_of, asker_of, changed_member_of, numbers_in, each_word};
 ghost use Rattle.world_script.specs.Words.{Within};
 
 use crate::words::Words;
@@ -32,8 +32,23 @@ pub const MEMBERS: Range = Range {
     least: 1,
     most: 65_535,
 };
-/// The numbers of clients.
+/// The numbers that a change may name as members.
+pub const CHANGED: Range = Range {
+    least: 0,
+    most: 65_535,
+};
+/// How many members a change may say to be faulty.
+pub const CHANGED_FAULTY: Range = Range {
+    least: 0,
+    most: 255,
+};
+/// The numbers of clients. Client 0 is the view manager.
 pub const CLIENTS: Range = Range {
+    least: 0,
+    most: limits::LAST_CLIENT as u64,
+};
+/// The numbers of clients that ask for operations of the service.
+pub const ASKERS: Range = Range {
     least: 1,
     most: limits::LAST_CLIENT as u64,
 };
@@ -63,6 +78,21 @@ pub const PLACES: Range = Range {
 pub const EARLY_PLACES: Range = Range {
     least: 0,
     most: 0x7fff_ffff_ffff_ffff,
+};
+/// The numbers that a view may have.
+pub const VIEWS: Range = Range {
+    least: 0,
+    most: limits::LAST_VIEW as u64,
+};
+/// The first places of views.
+pub const STARTS: Range = Range {
+    least: 1,
+    most: 1 << 63,
+};
+/// How many members may be faulty.
+pub const FAULTY: Range = Range {
+    least: 0,
+    most: limits::FAULTY as u64,
 };
 /// The indices of requests in a batch.
 pub const INDICES: Range = Range {
@@ -96,12 +126,64 @@ pub fn member_of(word: &[u8]) -> Option<MemberId>
     Some(MemberId::new(n as u16))
 }
 
-/// The client whose number a word is.
+/// The client whose number a word is, be it the view manager or another one.
 pub fn client_of(word: &[u8]) -> Option<ClientId>
     ensures { result ≡ client_of word.now }
 {
     let n = number_in(&CLIENTS, word)?;
     Some(ClientId::new(n as u16))
+}
+
+/// The client whose number a word is, if it may ask for operations of the service.
+pub fn asker_of(word: &[u8]) -> Option<ClientId>
+    ensures { result ≡ asker_of word.now }
+{
+    let n = number_in(&ASKERS, word)?;
+    Some(ClientId::new(n as u16))
+}
+
+/// The members whose numbers the words are.
+pub fn members_of(
+    alloc: Global,
+    mut words: Words<'_>,
+) -> Result<Option<Sequence<MemberId>>, AllocError>
+    ensures { IfOk result (λ members. members ≡ each_word member_of words.entry) }
+{
+    let mut members = Sequence::new(alloc);
+    while let Some((word, more)) = words.split_first() {
+        let Some(member) = member_of(word) else {
+            return Ok(None);
+        };
+        members.push(member)?;
+        words = more;
+    }
+    Ok(Some(members))
+}
+
+/// The number that a word is, if a change may name it as a member.
+fn changed_member_of(word: &[u8]) -> Option<MemberId>
+    ensures { result ≡ changed_member_of word.now }
+{
+    let n = number_in(&CHANGED, word)?;
+    Some(MemberId::new(n as u16))
+}
+
+/// The members that a change names by words.
+pub fn changed_members_of(
+    alloc: Global,
+    mut words: Words<'_>,
+) -> Result<Option<Sequence<MemberId>>, AllocError>
+    ensures { IfOk result (λ members. members ≡ each_word changed_member_of words.entry) }
+{
+    let mut members = Sequence::new(alloc);
+    while let Some((word, more)) = words.split_first() {
+        let Some(member) = changed_member_of(word) else {
+            return Ok(None);
+        };
+        members.push(member)?;
+        words = more;
+    }
+    Ok(Some(members))
 }
 
 /// The period that a word is, of a group of so many members. In so many places each member takes one

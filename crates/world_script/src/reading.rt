@@ -2,15 +2,19 @@
 ghost use Rattle.std.specs.Prelude.{◌≡◌, ◌&&◌, ◌<◌, ◌≤◌, nat_le, Ok, Err, IfOk, IfSome, take, ◌+◌};
 ghost use Rattle.std.specs.List.{list_all};
 ghost use Rattle.smart_base.specs.declared.limits.TheConstants.{LINE_BYTES};
-ghost use Rattle.world_rules.specs.Scripts.{is_printed, is_short, is_nothing, number_in, member_of, client_of, each_word, party_of_word, ask_line, again_line, told_line, flow_line, give_line, deliver_line, tick_line, settle_line, disk_with, disk_line, show_line, node_line, faulty_line, rogue_line, form_by, injecting, line_by, line_of, members_from, view_for, group_words, group_line, app_line, is_period, period_words, period_line};
+ghost use Rattle.world_rules.specs.Scripts.{is_printed, is_short, is_nothing, number_in, member_of, client_of, each_word, party_of_word, ask_line, change_line, again_line, told_line, flow_line, give_line, deliver_line, tick_line, settle_line, disk_with, disk_line, show_line, node_line, faulty_line, rogue_line, form_by, injecting, line_by, line_of, members_from, view_for, group_words, group_line, app_line, is_period, period_words, period_line};
 ghost use Rattle.world_rules.specs.declared.line.Kind.{Kind};
 ghost use Rattle.world_script.specs.declared.fault.LineFault.TheVariants as faults;
 
 use crate::crash::{crash_line, restart_line};
 use crate::fault::LineFault;
 use crate::forms::form_by;
-use crate::numbers::{CALLS, MESSAGES, client_of, member_of, number_in, period_in};
+use crate::numbers::{
+    CALLS, CHANGED_FAULTY, MESSAGES, asker_of, changed_members_of, client_of, member_of,
+    members_of, number_in, period_in,
+};
 use crate::words::{Words, behind_spaces, payload_of, words_in};
+use reconfig::change::Change;
 use smart_base::decimal::number_of;
 use smart_base::equality::same_bytes;
 use smart_base::limits::{FAULTY, LINE_BYTES, MEMBERS};
@@ -86,21 +90,6 @@ fn party_of_word(word: &[u8]) -> Option<Party>
     }
 }
 
-/// The members whose numbers the words are.
-fn members_of(alloc: Global, mut words: Words<'_>) -> Result<Option<Sequence<MemberId>>, AllocError>
-    ensures { IfOk result (λ members. members ≡ each_word member_of words.entry) }
-{
-    let mut members = Sequence::new(alloc);
-    while let Some((word, more)) = words.split_first() {
-        let Some(member) = member_of(word) else {
-            return Ok(None);
-        };
-        members.push(member)?;
-        words = more;
-    }
-    Ok(Some(members))
-}
-
 /// The members and clients that the words tell.
 fn parties_of(alloc: Global, mut words: Words<'_>) -> Result<Option<Sequence<Party>>, AllocError>
     ensures { IfOk result (λ parties. parties ≡ each_word party_of_word words.entry) }
@@ -116,7 +105,7 @@ fn parties_of(alloc: Global, mut words: Words<'_>) -> Result<Option<Sequence<Par
     Ok(Some(parties))
 }
 
-/// A client's number and an operation, which is the rest of the line.
+/// The number of a client that asks, and an operation, which is the rest of the line.
 fn ask_line(alloc: Global, bytes: &[u8], words: Words<'_>) -> Result<Result<Line, Kind>, AllocError>
     ensures { IfOk result (λ line. line ≡ ask_line bytes.now words.entry) }
 {
@@ -126,13 +115,40 @@ fn ask_line(alloc: Global, bytes: &[u8], words: Words<'_>) -> Result<Result<Line
     let Some(_) = more.split_first() else {
         return Ok(Err(Kind::Count));
     };
-    let Some(client) = client_of(client) else {
+    let Some(client) = asker_of(client) else {
         return Ok(Err(Kind::Number));
     };
     let Some(op) = payload_of(alloc, behind_spaces(2, bytes))? else {
         return Ok(Err(Kind::Form));
     };
     Ok(Ok(Line::Ask { client, op }))
+}
+
+/// How many members may be faulty, and the members. It is the operation that asks for this change.
+fn change_line(alloc: Global, words: Words<'_>) -> Result<Result<Line, Kind>, AllocError>
+    ensures { IfOk result (λ line. line ≡ change_line words.entry) }
+{
+    let Some((f, more)) = words.split_first() else {
+        return Ok(Err(Kind::Count));
+    };
+    let Some(_) = more.split_first() else {
+        return Ok(Err(Kind::Count));
+    };
+    let Some(f) = number_in(&CHANGED_FAULTY, f) else {
+        return Ok(Err(Kind::Number));
+    };
+    let Some(members) = changed_members_of(alloc, more)? else {
+        return Ok(Err(Kind::Number));
+    };
+    let change = Change {
+        f: f as u8,
+        members,
+    };
+    if !change.is_brief() {
+        return Ok(Err(Kind::Form));
+    }
+    let op = change.operation(alloc)?;
+    Ok(Ok(Line::Change { op }))
 }
 
 /// One client's number.
@@ -302,6 +318,8 @@ fn line_by(alloc: Global, bytes: &[u8], words: Words<'_>) -> Result<Result<Line,
     };
     if same_bytes(word, b"ask") {
         ask_line(alloc, bytes, words)
+    } else if same_bytes(word, b"change") {
+        change_line(alloc, words)
     } else if same_bytes(word, b"again") {
         Ok(again_line(words))
     } else if same_bytes(word, b"told") {

@@ -2,4 +2,5 @@
 //! batches.
 #![tactic(auto)]
 
+pub mod few;
 pub mod state;

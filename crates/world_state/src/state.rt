@@ -1,13 +1,15 @@
 //! A world: its hosts and clients, and the messages that leave them.
-ghost use Rattle.std.specs.Prelude.{◌≡◌, ◌<◌, ℕ, [], ◌∷◌, IfOk, OnOk, Some, length, slice_get, map, if◌then◌else◌};
+ghost use Rattle.std.specs.Prelude.{◌≡◌, ◌<◌, ℕ, [], ◌∷◌, ◌++◌, IfOk, OnOk, Some, length, slice_get, map, if◌then◌else◌};
 ghost use Rattle.smart_base.specs.Lists.{or_else};
+ghost use Rattle.client_quorum.specs.Clients.{fresh};
 ghost use Rattle.node_rules.specs.Nodes.{view_of};
 ghost use Rattle.node_rules.specs.Steps.{opened};
 ghost use Rattle.world_rules.specs.Secrets.{group_secret};
 ghost use Rattle.world_rules.specs.Premises.{is_among};
-ghost use Rattle.world_rules.specs.Worlds.{Host, telling, posts, meets, is_gone, is_rogue, is_up, heard_by, sends, sends_all, host_of_node, hosts_from, outset_of, clients_from, begun, is_halted};
+ghost use Rattle.world_rules.specs.Worlds.{Host, telling, breaking, ending_few, posts, meets, is_gone, is_rogue, is_up, heard_by, sends, sends_all, host_of_node, hosts_from, outset_of, clients_from, asked_by, asked_in, begun, is_halted};
 ghost use Rattle.world_rules.specs.Plays.{rested};
 
+use crate::few::too_many_in;
 use client_quorum::client::{Acceptance, Client};
 use node_rules::node::{Held, Target};
 use smart_base::duplicate::Duplicate;
@@ -24,6 +26,7 @@ use std::alloc::{AllocError, Global};
 use std::marker::Model;
 use std::mem;
 use world_hosts::host::{Host, is_among};
+use world_ledger::chosen::Chosen;
 use world_ledger::content::sent_line;
 use world_ledger::ledger::Ledger;
 use world_ledger::secret::GroupRing;
@@ -34,14 +37,13 @@ use world_rules::message::{Content, Ending, Origin, Premise, Sent};
 /// batches, who breaks the rules, and what the present script line tells.
 pub struct WorldState<S> {
     pub alloc: Global,
-    pub view: View,
     pub period: u32,
     pub ring: GroupRing,
     pub hosts: Vec<Host<S>>,
     pub clients: Vec<Client>,
     pub sent: Ledger,
     pub mark: u64,
-    pub chosen: Vec<Batch>,
+    pub chosen: Chosen,
     pub accepted: Vec<Acceptance>,
     pub told: Vec<OutLine>,
     pub faulty: Vec<MemberId>,
@@ -53,7 +55,6 @@ impl<S: Drop> Drop for WorldState<S> {
     fn drop(self) {
         let WorldState {
             alloc: _alloc,
-            view: _view,
             period: _period,
             ring: _ring,
             hosts: _hosts,
@@ -76,14 +77,14 @@ impl<S> Model for WorldState<S> {
     ghost Value = { World S };
 
     ghost view = { λ w. record {
-      view = w.view;
+      view = w.chosen.first;
       period = w.period;
       hosts = w.hosts.items;
       clients = w.clients.items;
       sent = w.sent.sent;
       marked = w.sent.marked;
       mark = w.mark;
-      chosen = w.chosen.items;
+      chosen = w.chosen.list;
       accepted = w.accepted.items;
       told = w.told.items;
       faulty = w.faulty.items;
@@ -105,12 +106,22 @@ fn or_limit(ending: Option<Ending>) -> Option<Ending>
     }
 }
 
+/// Ends the play by a premise that is broken, unless another one was broken before.
+fn breaking(premise: Premise, ending: Option<Ending>) -> Option<Ending>
+    ensures { result ≡ breaking premise ending }
+{
+    match ending {
+        Some(Ending::Premise(first)) => Some(Ending::Premise(first)),
+        Some(Ending::Limit) | None => Some(Ending::Premise(premise)),
+    }
+}
+
 /// Ends the play by a collision, if a text clashes.
 fn or_collision(clashes: bool, ending: Option<Ending>) -> Option<Ending>
-    ensures { result ≡ (if clashes then Some (Ending.Premise Premise.Collision) else ending) }
+    ensures { result ≡ (if clashes then breaking Premise.Collision ending else ending) }
 {
     if clashes {
-        return Some(Ending::Premise(Premise::Collision));
+        return breaking(Premise::Collision, ending);
     }
     ending
 }
@@ -154,18 +165,25 @@ fn first_hosts<S: Service>(
     Ok(hosts)
 }
 
-fn first_clients(alloc: Global, count: u16) -> Result<Vec<Client>, AllocError>
-    ensures { IfOk result (λ clients. clients.items ≡ clients_from count 0) }
+/// A client that knows a first view. Error: want of memory.
+fn first_client(alloc: Global, view: &View, id: ClientId) -> Result<Client, AllocError>
+    ensures { IfOk result (λ client. client ≡ fresh view.now id) }
+{
+    Client::new(alloc, view.duplicate(alloc)?, id)
+}
+
+fn first_clients(alloc: Global, view: &View, count: u16) -> Result<Vec<Client>, AllocError>
+    ensures { IfOk result (λ clients. clients.items ≡ clients_from view.now count 0) }
 {
     let mut clients: Vec<Client> = Vec::new(alloc);
     for i in 0..count {
-        clients.push(Client::new(alloc, ClientId::new(i)))?;
+        clients.push(first_client(alloc, view, ClientId::new(i))?)?;
     }
     Ok(clients)
 }
 
 /// The members of a view, as parties. Error: want of memory.
-fn members_of(alloc: Global, view: &View) -> Result<Sequence<Party>, AllocError>
+pub fn members_of(alloc: Global, view: &View) -> Result<Sequence<Party>, AllocError>
     ensures { IfOk result (λ parties. parties ≡ map (λ (id : ℕ). Party.Member id) view.now.members) }
 {
     let mut parties: Sequence<Party> = Sequence::new(alloc);
@@ -184,15 +202,53 @@ fn one_party(alloc: Global, party: Party) -> Result<Sequence<Party>, AllocError>
     Ok(parties)
 }
 
-/// The parties that hear a message for a target: the members of its sender's view, one member, or a
-/// client. Error: want of memory.
-pub fn heard_by(alloc: Global, view: &View, target: Target) -> Result<Sequence<Party>, AllocError>
-    ensures { IfOk result (λ parties. parties ≡ heard_by view.now target) }
+/// Adds the number of a client, if it has asked. Error: want of memory.
+fn push_asked(asked: &mut Sequence<ClientId>, client: &Client) -> Result<(), AllocError>
+    ensures { OnOk result (asked.new ≡ asked.old ++ asked_by client.now) }
+{
+    if client.last > 0 {
+        asked.push(client.id)?;
+    }
+    Ok(())
+}
+
+/// The clients that have asked, by number. Error: want of memory.
+fn asked_in(alloc: Global, clients: &[Client]) -> Result<Sequence<ClientId>, AllocError>
+    ensures { IfOk result (λ asked. asked ≡ asked_in clients.now) }
+{
+    let mut asked: Sequence<ClientId> = Sequence::new(alloc);
+    for client in clients {
+        push_asked(&mut asked, client)?;
+    }
+    Ok(asked)
+}
+
+/// Clients, as parties. Error: want of memory.
+fn parties_of(alloc: Global, clients: &[ClientId]) -> Result<Sequence<Party>, AllocError>
+    ensures { IfOk result (λ parties. parties ≡ map (λ (id : ℕ). Party.Client id) clients.now) }
+{
+    let mut parties: Sequence<Party> = Sequence::new(alloc);
+    for id in clients {
+        parties.push(Party::Client(*id))?;
+    }
+    Ok(parties)
+}
+
+/// The parties that hear a message for a target: the members of its sender's view, one member, a
+/// client, or all clients that have asked. Error: want of memory.
+pub fn heard_by(
+    alloc: Global,
+    view: &View,
+    clients: &[Client],
+    target: Target,
+) -> Result<Sequence<Party>, AllocError>
+    ensures { IfOk result (λ parties. parties ≡ heard_by view.now (asked_in clients.now) target) }
 {
     match target {
         Target::View => members_of(alloc, view),
         Target::Node(id) => one_party(alloc, Party::Member(id)),
         Target::Client(id) => one_party(alloc, Party::Client(id)),
+        Target::Clients => parties_of(alloc, asked_in(alloc, clients)?.as_slice()),
     }
 }
 
@@ -208,13 +264,12 @@ impl<S: Service> WorldState<S> {
         Ok(WorldState {
             alloc,
             hosts: first_hosts(alloc, &view, period, ring.get())?,
-            clients: first_clients(alloc, CLIENTS)?,
-            view,
+            clients: first_clients(alloc, &view, CLIENTS)?,
             period,
             ring,
             sent: Ledger::new(alloc)?,
             mark: 0,
-            chosen: Vec::new(alloc),
+            chosen: Chosen::new(alloc, view)?,
             accepted: Vec::new(alloc),
             told: Vec::new(alloc),
             faulty: Vec::new(alloc),
@@ -271,7 +326,7 @@ impl<S: Service> WorldState<S> {
             }
             Ok(true) => {
                 let_go(sent);
-                self.ending = Some(Ending::Premise(Premise::Collision));
+                self.ending = breaking(Premise::Collision, self.ending);
                 return Ok(());
             }
             Ok(false) => {}
@@ -332,7 +387,7 @@ impl<S: Service> WorldState<S> {
     fn send_held(&mut self, id: MemberId, view: &View, held: Held) -> Result<(), AllocError>
         ensures { OnOk result (self.new ≡ sends self.old (Origin.Node id) view.now held.to held.message) }
     {
-        let to = heard_by(self.alloc, view, held.to)?;
+        let to = heard_by(self.alloc, view, self.clients.as_slice(), held.to)?;
         self.send(Origin::Node(id), to, held.message)
     }
 
@@ -375,6 +430,15 @@ impl<S: Service> WorldState<S> {
                 let_go(held);
                 Err(error)
             }
+        }
+    }
+
+    /// Ends the play, if too many members of a view behind the chosen list are faulty.
+    pub fn keep_few(&mut self)
+        ensures { self.new ≡ record self.old { ending = ending_few self.old.view self.old.chosen self.old.faulty self.old.ending } }
+    {
+        if too_many_in(self.chosen.views(), self.faulty.as_slice()) {
+            self.ending = breaking(Premise::TooManyFaulty, self.ending);
         }
     }
 

@@ -48,6 +48,7 @@ pub fn ignored_text(why: Ignored) -> &'static str
         Ignored::BadTag => "BadTag",
         Ignored::Settled => "Settled",
         Ignored::UnknownView => "UnknownView",
+        Ignored::OldView => "OldView",
         Ignored::Stranger => "Stranger",
         Ignored::Repeated => "Repeated",
     }
@@ -255,6 +256,7 @@ fn push_words(out: &mut String, line: &OutLine) -> Result<(), AllocError>
             place,
             executed,
         } => push_two(out, "delivered n", member.get(), place.get(), *executed),
+        OutLine::View { member, view } => push_one(out, "view n", member.get(), view.get() as u64),
         OutLine::Promised {
             member,
             view,
@@ -299,6 +301,19 @@ fn push_words(out: &mut String, line: &OutLine) -> Result<(), AllocError>
             place.get(),
             *index,
             reply.as_slice(),
+        ),
+        OutLine::Viewed { client, have, need } => push_two(
+            out,
+            "viewed c",
+            client.get(),
+            *have,
+            *need,
+        ),
+        OutLine::Moved { client, view } => push_one(
+            out,
+            "moved c",
+            client.get(),
+            view.get() as u64,
         ),
         OutLine::Ignored { client, why } => push_name(
             out,

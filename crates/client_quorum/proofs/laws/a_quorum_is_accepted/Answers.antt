@@ -3,6 +3,6 @@ use Rattle.client_quorum.proofs.laws.a_quorum_is_accepted.Goals as goal
 
 pub returns : goal.returns
 returns c = record {
-  exact = λ secret view c q replies. asked_exact secret view c q replies;
-  complete = λ secret view c q replies none a. asked_complete secret view c q replies none a;
+  exact = λ secret client q ws. asked_exact secret client q ws;
+  complete = λ secret client q ws none a. asked_complete secret client q ws none a;
 }

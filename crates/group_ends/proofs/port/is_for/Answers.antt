@@ -4,4 +4,4 @@ use Rattle.group_ends.specs.Carried.{is_for}
 use Rattle.group_ends.proofs.port.is_for.Goals as goal
 
 pub returns-in-Client : goal.returns-in-Client
-returns-in-Client c = c.is_client.ensures c.in-Client.field-0 ∙ ap (λ (t : Target). is_for t c.args.end) (sym c.in-Client.is)
+returns-in-Client c = c.is_client.ensures.one c.in-Client.field-0 ∙ ap (λ (t : Target). is_for t c.args.end) (sym c.in-Client.is)

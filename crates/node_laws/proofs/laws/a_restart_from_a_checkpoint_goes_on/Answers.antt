@@ -1,13 +1,14 @@
 use Rattle.node_laws.proofs.CutShown.{shown_written}
+use Rattle.node_laws.proofs.CutRested.{undamaged_cut}
 use Rattle.node_laws.proofs.CutNodes.{sound_behind, sound_written}
-use Rattle.node_laws.proofs.Cuts.{behind_place, book_upto, cut_counts, cut_decides, cut_regency, cut_reopened, cut_slice, read_cut, undamaged_cut}
+use Rattle.node_laws.proofs.Cuts.{behind_place, book_upto, cut_counts, cut_decides, cut_regency, cut_reopened, cut_slice, read_cut}
 use Rattle.node_laws.proofs.laws.a_restart_from_a_checkpoint_goes_on.Goals as goal
 
 pub returns-clause-read : goal.returns-clause-read
 returns-clause-read g c = λ place entries fit. read_cut place entries fit
 
 pub returns-clause-undamaged : goal.returns-clause-undamaged
-returns-clause-undamaged g c = λ secret stated view place entries book upto fit. undamaged_cut secret stated view place entries book upto fit
+returns-clause-undamaged g c = λ secret stated view place batches entries are book has upto along fit. undamaged_cut secret stated view place batches entries are book has upto along fit
 
 pub returns-clause-promised : goal.returns-clause-promised
 returns-clause-promised g c = λ secret stated views place number entries book most. cut_regency place number entries (book_upto secret stated views entries book number most)
@@ -29,8 +30,8 @@ returns-clause-node g c = λ secret id stated view views period place batches ch
     cut_reopened g.S.Service.meaning secret id stated view views period place batches checkpoint e es book has upto along
 
 pub returns-clause-reopened : goal.returns-clause-reopened
-returns-clause-reopened g c = λ secret id stated view period place batches checkpoint e es viewed book has upto along.
-    sound_behind g.S.Service.meaning secret id stated view period place batches checkpoint e es viewed book has upto along
+returns-clause-reopened g c = λ secret id stated view period place batches checkpoint e es are book has upto along.
+    sound_behind g.S.Service.meaning secret id stated view period place batches checkpoint e es are book has upto along
 
 pub returns-clause-written : goal.returns-clause-written
 returns-clause-written g c = λ stated view n diary more is book made has some. sound_written stated view n diary more is book made has some

@@ -2,7 +2,8 @@ use Rattle.node_laws.proofs.Restored.{book_sound, front_sound, front_decided, bo
 use Rattle.node_laws.proofs.Reopened.{reopened_is, place_reopened, count_is, latest_is, in_turn}
 use Rattle.node_laws.proofs.Cuts.{own_along}
 use Rattle.node_laws.proofs.CutNodes.{sound_reopened}
-use Rattle.node_laws.proofs.Undamaged.{undamaged, read_again}
+use Rattle.node_laws.proofs.CutRested.{undamaged}
+use Rattle.node_laws.proofs.Undamaged.{read_again}
 use Rattle.node_laws.proofs.CertifiedBooks.{certified_book, held_book}
 use Rattle.node_laws.proofs.laws.a_restart_is_sound.Goals as goal
 
@@ -34,7 +35,7 @@ pub returns-clause-read : goal.returns-clause-read
 returns-clause-read g c = λ entries fit. read_again entries fit
 
 pub returns-clause-undamaged : goal.returns-clause-undamaged
-returns-clause-undamaged g c = λ secret stated view entries book none fit. undamaged secret stated view entries book none fit
+returns-clause-undamaged g c = λ secret stated view entries viewed book none fit. undamaged secret stated view entries viewed book none fit
 
 pub returns-clause-count : goal.returns-clause-count
 returns-clause-count g c = λ secret stated views entries book none. count_is secret stated views entries book none

@@ -1,8 +1,4 @@
-use Rattle.std.proofs.Common.{◌∙◌, ap, List, refl}
-use Rattle.vote_book.specs.Books.{Book, ended, pushed}
-use Rattle.vote_book.specs.declared.entry.LogEntry.{LogEntry}
-use Rattle.vote_book.specs.declared.entry.LogEntry.TheVariants.{Opened}
-use Rattle.node_opening.specs.Resuming.{opening_of}
+use Rattle.std.proofs.Common.{refl}
 use Rattle.node_opening.proofs.Resuming.{new_follows}
 use Rattle.node_opening.proofs.reopen.begin.Goals as goal
 

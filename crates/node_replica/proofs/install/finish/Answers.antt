@@ -1,4 +1,4 @@
-use Rattle.std.proofs.Common.{◌≡◌, ap, sym, refl, ◌∙◌}
+use Rattle.std.proofs.Common.{ap, sym, refl, ◌∙◌}
 use Rattle.state_transfer.specs.Fetches.{finished}
 use Rattle.node_rules.specs.Nodes.{Node}
 use Rattle.node_state.proofs.Broken.{on_err}
@@ -22,8 +22,8 @@ returns-in_err-install_replica-in-Ok-clause-err g c =
     on_err _ (finish_part c.args.node.now c.args.fetch.now c.in-Ok.replica (finished g.S.Service.meaning c.args.fetch.now) c.install_replica.new.node.entries c.in-Ok.ensures.exact
     (sym c.is_of_group.ensures ∙ c.if-not-is_of_group.false) c.in_err-install_replica-in-Ok.ensures.err)
 
-pub returns-in_err-push-in-Ok-clause-err : goal.returns-in_err-push-in-Ok-clause-err
-returns-in_err-push-in-Ok-clause-err g c =
+pub returns-in_err-tell_installed-in-Ok-clause-err : goal.returns-in_err-tell_installed-in-Ok-clause-err
+returns-in_err-tell_installed-in-Ok-clause-err g c =
     on_err _ (finish_all c.args.node.now c.install_replica.new.node c.args.fetch.now (finished g.S.Service.meaning c.args.fetch.now)
     (c.in_ok-install_replica-in-Ok.ensures.node
     ∙ sym (by_group c.args.node.now c.args.fetch.now c.in-Ok.replica (finished g.S.Service.meaning c.args.fetch.now) c.in-Ok.ensures.exact (sym c.is_of_group.ensures ∙ c.if-not-is_of_group.false))))

@@ -1,4 +1,4 @@
-use Rattle.std.proofs.Common.{◌≡◌, ap, sym, ◌∙◌}
+use Rattle.std.proofs.Common.{ap, sym, ◌∙◌}
 use Rattle.node_rules.specs.Nodes.{Node}
 use Rattle.node_state.proofs.Broken.{on_err}
 use Rattle.node_replica.proofs.Installing.{apart_is, installs_is, told_is, ready_apart, installs_part}

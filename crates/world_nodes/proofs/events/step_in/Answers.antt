@@ -10,7 +10,7 @@ use Rattle.world_nodes.proofs.events.step_in.Goals as goal
 pub returns-clause-world : goal.returns-clause-world
 returns-clause-world g c = λ h there.
     let is = read_is _ c.args.world.now c.args.i h c.index_mut.result.now _ c.world.view_is c.requires.within c.index_mut.ensures.value there in
-    put_step g.S.Service.meaning c.args.event.now _ c.args.world.now c.args.i h c.index_mut.result.now c.step_host.new.host c.step_host.new.chosen.items c.step_host.new.told.items c.world.view_is is
+    put_step g.S.Service.meaning c.args.event.now _ c.args.world.now c.args.i h c.index_mut.result.now c.step_host.new.host c.step_host.new.chosen c.step_host.new.told.items c.world.view_is is
     c.in_ok-left.ensures.host c.in_ok-left.ensures.chosen c.in_ok-left.ensures.told
 
 pub returns-clause-left : goal.returns-clause-left

@@ -1,4 +1,4 @@
-use Rattle.std.proofs.Common.{◌≡◌, rules, ◌∙◌, [], sym, ap, subst, arith}
+use Rattle.std.proofs.Common.{◌∙◌, [], sym, ap, subst, arith}
 use Rattle.smart_base.specs.Lists.{Each}
 use Rattle.client_quorum.specs.Clients.{fresh}
 use Rattle.group_ends.specs.Carried.{DropsLate}
@@ -14,14 +14,13 @@ invariant_of-result g c =
     let head = g.P.Owner.head 0 in
     let none = c.requires.journal.1 in
     let es = a.journal.events.items in
-    let start : c.new-2.result ≡ fresh 1 = search rules in
     let all = subst (λ xs. Each (Carries xs) a.ports.items) (sym none) c.requires.ports.1 in record {
       number = c.requires.journal.0;
       whole = λ _. c.requires.journal.2;
       head = c.requires.head;
-      group = c.requires.group;
-      kept = λ _. start ∙ sym (ap (client_of head.secret head.view (fresh 1)) none);
-      asks = subst (Asks head.secret head.view (fresh 1)) (sym none) tt;
+      group = c.requires.group.0;
+      kept = λ _. c.requires.group.1 ∙ sym (ap (client_of head.secret (fresh head.view 1)) none);
+      asks = subst (Asks head.secret (fresh head.view 1)) (sym none) tt;
       came = come-first es a.inbox.links.items none c.requires.inbox;
       left = carries-front es a.ports.items all;
       all_left = λ _. all;

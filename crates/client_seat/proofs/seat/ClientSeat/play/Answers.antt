@@ -1,7 +1,7 @@
 use Rattle.std.proofs.Common.{None, rules, inr, ◌≡◌, ◌∙◌, ℕ, List, [], ◌∷◌, ◌++◌, Option, refl, sym, ap, subst, true≢false}
 use Rattle.smart_statements.specs.declared.entry.NodeEvent.TheVariants.{Arrive}
-use Rattle.smart_base.specs.Views.{View}
-use Rattle.client_quorum.specs.Clients.{fresh, after_bytes, heard_bytes}
+use Rattle.client_quorum.specs.Clients.{fresh}
+use Rattle.client_quorum.specs.Readings.{after_bytes, heard_bytes}
 use Rattle.trail.specs.declared.event.TrailEvent.TheVariants.{Happens}
 use Rattle.group_ends.specs.Facts.{HasCome}
 use Rattle.group_ends.specs.Ports.{ends}
@@ -29,8 +29,8 @@ invariant_of-self-2 g c =
       whole = λ _. c.in_ok-note.ensures.whole;
       head = s.head;
       group = s.group;
-      kept = λ _. client-heard head.secret head.view (fresh 1) es new e longer x s.client _ refl (s.kept c.requires.whole) (c.in-Ok.ensures.client ∙ ap (λ (k : List ℕ). after_bytes k s.view s.client b) s.group.0 ∙ ap (λ (v : View). after_bytes head.secret v s.client b) s.group.1 ∙ ap (λ (bytes : List ℕ). after_bytes head.secret head.view s.client bytes) c.as_slice.ensures);
-      asks = asks-more head.secret head.view (fresh 1) es new e longer tt s.asks;
+      kept = λ _. client-heard head.secret (fresh head.view 1) es new e longer x s.client _ refl (s.kept c.requires.whole) (c.in-Ok.ensures.client ∙ ap (λ (k : List ℕ). after_bytes k s.client b) s.group ∙ ap (λ (bytes : List ℕ). after_bytes head.secret s.client bytes) c.as_slice.ensures);
+      asks = asks-more head.secret (fresh head.view 1) es new e longer tt s.asks;
       came = subst (λ (p : Option (List ℕ)). HasCome new p s.inbox.links.items) (sym gone) (come-noted es new x s.inbox.links.items longer was);
       left = carries-front new s.ports.items all;
       all_left = λ _. all;
@@ -59,7 +59,7 @@ invariant_of-self-in-Break-1 g c =
       head = s.head;
       group = s.group;
       kept = λ over. absurd (true≢false over);
-      asks = asks-more head.secret head.view (fresh 1) es new e longer tt s.asks;
+      asks = asks-more head.secret (fresh head.view 1) es new e longer tt s.asks;
       came = subst (λ (p : Option (List ℕ)). HasCome new p s.inbox.links.items) (sym gone) (come-noted es new x s.inbox.links.items longer was);
       left = carries-front new s.ports.items all;
       all_left = λ over. absurd (true≢false over);
@@ -77,7 +77,7 @@ returns-clause-ok g c =
     let taken : c.take.result ≡ s.pending = search rules in (
       c.in-Some.bytes,
       sym taken ∙ c.in-Some.is,
-      c.in-Ok.ensures.heard ∙ ap (λ (k : List ℕ). heard_bytes k s.view s.client b) s.group.0 ∙ ap (λ (v : View). heard_bytes head.secret v s.client b) s.group.1 ∙ ap (λ (bytes : List ℕ). heard_bytes head.secret head.view s.client bytes) c.as_slice.ensures,
+      c.in-Ok.ensures.heard ∙ ap (λ (k : List ℕ). heard_bytes k s.client b) s.group ∙ ap (λ (bytes : List ℕ). heard_bytes head.secret s.client bytes) c.as_slice.ensures,
       c.note.ensures.events,
     )
 

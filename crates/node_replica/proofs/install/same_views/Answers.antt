@@ -1,6 +1,0 @@
-use Rattle.std.proofs.Common.{sym}
-use Rattle.smart_base.proofs.SameLists.{same_list-length}
-use Rattle.node_replica.proofs.install.same_views.Goals as goal
-
-pub returns-then-a-b : goal.returns-then-a-b
-returns-then-a-b c = sym (same_list-length _ c.args.a.now c.args.b.now c.if-a-b.true)

@@ -1,4 +1,0 @@
-pub mod Views
-pub mod Along
-pub mod Courses
-pub mod Example
