@@ -31,7 +31,7 @@ same_target Clients View = false
 same_target Clients Clients = true
 
 -- Whether the end of a link is to hear a message for this receiver. A view is all members. A group has one client, which hears what is for any
--- or for all. INTERIM(views): all members of the group are those of its view.
+-- or for all. All members of a group are those of its view: no view moves in a group.
 abbrev pub is_for : Target → Target → Bool
 is_for (Node a) (Node b) = a == b
 is_for (Node a) (Client b) = false

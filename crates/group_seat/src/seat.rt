@@ -1,5 +1,6 @@
 //! The seat of a member in a group: its core with the trail of all that happened to it, and its links.
-ghost use Rattle.std.specs.Prelude.{◌≡◌, ◌≤◌, [], ℕ, List, None, false, true};
+ghost use Rattle.std.specs.Prelude.{◌≡◌, ◌≤◌, [], ℕ, List, None, false, true, IfSome};
+ghost use Rattle.std.proofs.Props.{props};
 ghost use Rattle.smart_base.specs.Lists.{Each};
 ghost use Rattle.trail_rules.specs.Replays.{arrivals};
 ghost use Rattle.group_ends.specs.Carried.{DropsLate, times};
@@ -28,6 +29,7 @@ use std::sync::{Mutex, Wait};
 /// put on each link is what the trail sends to its end without a Lost. A link drops a message only if it
 /// has carried 1,024. A seat is over once a call has failed or it was stopped. Once a call has failed, no
 /// more arrived than was taken, and each link has a front of what the trail sends.
+/// A snapshot that is handed over is one of its member.
 pub struct GroupSeat<S: Service, P: GroupLife<S>, O: Sink> {
     pub inner: Course<S, P, O>,
     pub(crate) ports: Vec<Port>,
@@ -46,6 +48,7 @@ pub struct GroupSeat<S: Service, P: GroupLife<S>, O: Sink> {
     pub ghost late: { DropsLate (ends ports.items) [] inner.journal.events.items } by { late_prop (ends ports.items) [] inner.journal.events.items },
     pub ghost apart: { AreApart (ends ports.items) } by { apart_prop (ends ports.items) },
     pub ghost named: { (ends ports.items ≡ P.receivers inner.journal.number) × ((port_links ports.items ≡ P.leaving inner.journal.number) × (inbox_links inbox.links.items ≡ P.arriving inner.journal.number)) },
+    pub ghost own: { IfSome handed (λ s. s.number ≡ inner.journal.number) } by { Prim.hlevel props },
 }
 
 /// What is left of a seat.
@@ -76,7 +79,7 @@ impl<S: Service, P: GroupLife<S>, O: Sink + Drop> Drop for GroupSeat<S, P, O> {
 }
 
 impl<S: Service, P: GroupLife<S>, O: Sink> GroupSeat<S, P, O> {
-    ghost use Rattle.std.specs.Prelude.{◌≡◌, ◌≤◌, ◌<◌, ◌+◌, ◌++◌, ◌∷◌, [], List, ℕ, false, true, length, get_or, slice_set, None, Some, IfOk, OnOk, OnErr, IsErrOf, MatchBool};
+    ghost use Rattle.std.specs.Prelude.{◌≡◌, ◌≤◌, ◌<◌, ◌+◌, ◌++◌, ◌∷◌, [], List, ℕ, false, true, length, get_or, slice_set, None, Some, IfOk, IfSome, OnOk, OnErr, IsErrOf, MatchBool};
     ghost use Rattle.std.specs.Io.KnownBytes.{Appends};
     ghost use Rattle.faults.specs.Counts.{Rose};
     ghost use Rattle.smart_base.specs.Lists.{Each};
@@ -160,9 +163,10 @@ impl<S: Service, P: GroupLife<S>, O: Sink> GroupSeat<S, P, O> {
         !self.over
     }
 
-    /// Takes what was handed over last.
+    /// Takes what was handed over last. It is a snapshot of this member.
     pub fn take_handed(&mut self) -> Option<Snapshot<S, P>>
         ensures handed { result ≡ self.old.handed }
+        ensures own { IfSome result (λ s. s.number ≡ self.old.inner.journal.number) }
         ensures emptied { self.new.handed ≡ None }
         ensures same { (self.new.over ≡ self.old.over) × (self.new.inner ≡ self.old.inner) }
         ensures heard { heard_puts self.new.inbox.links.items ≡ heard_puts self.old.inbox.links.items }
@@ -171,8 +175,9 @@ impl<S: Service, P: GroupLife<S>, O: Sink> GroupSeat<S, P, O> {
         self.handed.take()
     }
 
-    /// Hands a snapshot over, in the place of what was handed before.
+    /// Hands a snapshot of this member over, in the place of what was handed before.
     pub fn hand(&mut self, snapshot: Snapshot<S, P>)
+        requires own { snapshot.number ≡ self.old.inner.journal.number }
         ensures handed { self.new.handed ≡ Some snapshot }
         ensures same { (self.new.over ≡ self.old.over) × (self.new.inner ≡ self.old.inner) }
         ensures heard { heard_puts self.new.inbox.links.items ≡ heard_puts self.old.inbox.links.items }

@@ -164,7 +164,6 @@ pub enum Fired {
     /// A client that repeated its last request was sent its reply again, a member that asked for state
     /// was given what there is, or an offer made a plan possible.
     Answered,
-    /// The view in force has changed. This is the number of the new one. INTERIM(views): no rule
-    /// changes it.
+    /// The view in force has changed. This is the number of the new one.
     Viewed(ViewNo),
 }

@@ -50,8 +50,7 @@ impl Drop for Sync {
     }
 }
 
-/// A member's statement of the view in force, for a client (BFT-SMaRt, DSN 2014). INTERIM(views):
-/// nobody makes one.
+/// A member's statement of the view in force, for a client (BFT-SMaRt, DSN 2014).
 pub struct ViewInfo {
     pub view: View,
 }

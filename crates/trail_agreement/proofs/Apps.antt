@@ -24,9 +24,9 @@ use Rattle.audit_rules.specs.declared.recorded.Recorded.{Recorded}
 use Rattle.trail_rules.specs.Replays.{arrivals}
 use Rattle.audit_rules.specs.Audits.{CanBegin, damage_by, is_client, sealed_in}
 use Rattle.audit_rules.specs.Coherence.{AreSent, Coherent, Fresh, IsFresh, IsReplayed, IsSent, LeavesBy, first_snapshot}
-use Rattle.trail_agreement.specs.Deliveries.{AreSpelled, FewInEach, FewInEachBy, NoCollisionBy, OneListBy}
+use Rattle.trail_agreement.specs.Deliveries.{AreSpelled, FewInEach, FewInEachBy, NoCollision, NoCollisionBy, OneListBy}
 use Rattle.trail_agreement.specs.Excuses.{AreSentBut, CoherentBut, IsSentBut, nobody}
-use Rattle.trail_agreement.proofs.Group.{IsOver}
+use Rattle.trail_agreement.proofs.Group.{IsGroup, IsOver}
 use Rattle.trail_agreement.proofs.OneList.{one_list_over}
 
 sums_are_brief : IsBrief counting
@@ -67,33 +67,36 @@ module _ (faulty : ℕ → Bool) (trails : List Recorded) (spelled : AreSpelled 
     first = (fresh_of apps.Kv each t there).book member;
   }
 
+  -- a group over each service
+  pub group_count : FewInEach counting faulty view trails → is_view view ≡ true → Freshly apps.Count → NoCollision counting trails → IsGroup counting faulty trails secret view
+  group_count few viewed each apart = record {
+    brief = sums_are_brief;
+    viewed = viewed;
+    spelled = spelled;
+    sent = coherent.sent;
+    secrets = λ t there. (fresh_of apps.Count each t there).secret_is;
+    views = λ t there. (fresh_of apps.Count each t there).view_is;
+    over = over_count each;
+    few = few;
+    apart = apart;
+  }
+
+  pub group_kv : FewInEach keeping faulty view trails → is_view view ≡ true → Freshly apps.Kv → NoCollision keeping trails → IsGroup keeping faulty trails secret view
+  group_kv few viewed each apart = record {
+    brief = values_are_brief;
+    viewed = viewed;
+    spelled = spelled;
+    sent = coherent.sent;
+    secrets = λ t there. (fresh_of apps.Kv each t there).secret_is;
+    views = λ t there. (fresh_of apps.Kv each t there).view_is;
+    over = over_kv each;
+    few = few;
+    apart = apart;
+  }
+
   one_by : (app : App) → FewInEachBy app faulty view trails → is_view view ≡ true → Freshly app → NoCollisionBy app trails → OneListBy app trails
-  one_by apps.Count few viewed each apart =
-      one_list_over counting faulty trails secret view
-      (record {
-        brief = sums_are_brief;
-        viewed = viewed;
-        spelled = spelled;
-        sent = coherent.sent;
-        secrets = λ t there. (fresh_of apps.Count each t there).secret_is;
-        views = λ t there. (fresh_of apps.Count each t there).view_is;
-        over = over_count each;
-        few = few;
-        apart = apart;
-      })
-  one_by apps.Kv few viewed each apart =
-      one_list_over keeping faulty trails secret view
-      (record {
-        brief = values_are_brief;
-        viewed = viewed;
-        spelled = spelled;
-        sent = coherent.sent;
-        secrets = λ t there. (fresh_of apps.Kv each t there).secret_is;
-        views = λ t there. (fresh_of apps.Kv each t there).view_is;
-        over = over_kv each;
-        few = few;
-        apart = apart;
-      })
+  one_by apps.Count few viewed each apart = one_list_over counting faulty trails secret view (group_count few viewed each apart)
+  one_by apps.Kv few viewed each apart = one_list_over keeping faulty trails secret view (group_kv few viewed each apart)
 
 -- no runs deliver the empty list
 none_at : (place : ℕ) (batch : Batch) → batch_at [] place ≡ Some batch → ⊥
@@ -116,14 +119,14 @@ none-faulty : (members : List ℕ) → length (filter nobody members) ≡ 0
 none-faulty [] = refl
 none-faulty (x ∷ xs) = none-faulty xs
 
-few_nobody : {S : Type 0} (m : Meaning S) (view : View) (trails : List Recorded) → FewInEach m nobody view trails
+pub few_nobody : {S : Type 0} (m : Meaning S) (view : View) (trails : List Recorded) → FewInEach m nobody view trails
 few_nobody m view trails = record { each = λ list decided v there. let none = none-faulty v.members in omega (arith, none) }
 
 few_nobody_by : (app : App) (view : View) (trails : List Recorded) → FewInEachBy app nobody view trails
 few_nobody_by apps.Count view trails = few_nobody counting view trails
 few_nobody_by apps.Kv view trails = few_nobody keeping view trails
 
-coherent_but : (trails : List Recorded) → Coherent trails → CoherentBut nobody trails
+pub coherent_but : (trails : List Recorded) → Coherent trails → CoherentBut nobody trails
 coherent_but trails is = record {
   replayed = is.replayed;
   sent = each-weaken (AreSent trails) (AreSentBut nobody trails)

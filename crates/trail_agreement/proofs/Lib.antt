@@ -1,13 +1,13 @@
-mod Stated
-mod Shown
+pub mod Stated
+pub mod Shown
 mod Marks
-mod Runs
-mod Nodes
+pub mod Runs
+pub mod Nodes
 mod Beginning
-mod Sends
+pub mod Sends
 mod Witnesses
-mod Deliveries
-mod Group
+pub mod Deliveries
+pub mod Group
 mod Taking
 mod Listing
 pub mod OneList

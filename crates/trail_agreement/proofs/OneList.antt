@@ -142,3 +142,8 @@ module _ {S : Type 0} (m : Meaning S) (faulty : ℕ → Bool) (trails : List Rec
 
   pub one_list_over : OneList m trails
   one_list_over = record { list = all.0; decided = all.1.decided; members = each_from (λ t. is_client t ≡ false → Delivers m all.0 t) trails (λ t there member. delivers t there member) }
+
+  -- each node of a member stands along that list
+  pub all_listed : Listed m trails view (one_list_over).list
+  unfolding one_list_over
+  all_listed = all.1

@@ -43,7 +43,7 @@ MayArrive stated secret (Polls count) = Unit {0}
 MayArrive stated secret End = Unit {0}
 
 -- what holds of each held message, holds without the first
-each_first : (P : Held → Type 0) (firm : ℕ) (held : List Held) → Each P held → Each P (after_first firm held)
+pub each_first : (P : Held → Type 0) (firm : ℕ) (held : List Held) → Each P held → Each P (after_first firm held)
 each_first P firm [] each = tt
 each_first P firm (h ∷ hs) each = either (λ (rest : List Held). Each P rest) (nat_le h.needs firm) hs (h ∷ hs) each.1 each
 

@@ -40,7 +40,7 @@ spelled_alike a b same = ap (λ (bytes : List ℕ). drop 3 bytes) same
 message_is : (a b : Message) → spelling a ≡ spelling b → decoded (spelling a) ≡ Ok a → decoded (spelling b) ≡ Ok b → a ≡ b
 message_is a b same ra rb = ok_one (decoded (spelling a)) a b ra (ap (λ (bytes : List ℕ). decoded bytes) same ∙ rb)
 
-held_is : (secret : List ℕ) (h : Held) (a : Addressed) → IsGood secret h.message → Fits a.message → addressed_text (addressed_of h) ≡ addressed_text a → h.message ≡ a.message
+pub held_is : (secret : List ℕ) (h : Held) (a : Addressed) → IsGood secret h.message → Fits a.message → addressed_text (addressed_of h) ≡ addressed_text a → h.message ≡ a.message
 held_is secret h a good fits same =
     let alike : spelling h.message ≡ spelling a.message = spelled_alike (addressed_of h) a same in
     let short : length (spelling h.message) ≤ 1048576 = subst (λ (bytes : List ℕ). length bytes ≤ 1048576) (sym alike) fits.bytes_fit in
@@ -63,7 +63,7 @@ rests_released secret id es a (Some h) right fits is =
     subst (λ (x : Message). RestsOn es x) same (rests-more (take h.needs es) es (longer-take h.needs es) h.message of.0.rests)
 
 -- the first message that leaves is held
-first_there : (P : Held → Type 0) (firm : ℕ) (held : List Held) (h : Held) → Each P held → first_leaving firm held ≡ Some h → P h
+pub first_there : (P : Held → Type 0) (firm : ℕ) (held : List Held) (h : Held) → Each P held → first_leaving firm held ≡ Some h → P h
 first_there P firm [] h each is = absurd (cc)
 first_there P firm (x ∷ xs) h each is = by (nat_le x.needs firm) is
   where

@@ -72,15 +72,15 @@ among_passes {A} p (x ∷ xs) y there = by (p x) refl (λ later. among_passes p 
     by false is rest later = rest later
 
 -- a statement in bytes that came in a trail, and verifies
-record Came (secret : List ℕ) (trails : List Recorded) (s : Statement) : Type 0 where
-  trail : Recorded
-  there : Among trail trails
-  bytes : List ℕ
-  arrived : Among bytes (arrivals trail.events)
-  message : Message
-  read : decoded bytes ≡ Ok message
-  inside : Among s (statements_in message)
-  verified : verifies secret s ≡ true
+pub record Came (secret : List ℕ) (trails : List Recorded) (s : Statement) : Type 0 where
+  pub trail : Recorded
+  pub there : Among trail trails
+  pub bytes : List ℕ
+  pub arrived : Among bytes (arrivals trail.events)
+  pub message : Message
+  pub read : decoded bytes ≡ Ok message
+  pub inside : Among s (statements_in message)
+  pub verified : verifies secret s ≡ true
 
 read_one : (m : Message) (read : Result Message ℕ) → Among m (message_of read) → read ≡ Ok m
 read_one m (Ok x) (inl is) = ap (λ (y : Message). Ok y) (sym is)
@@ -162,7 +162,7 @@ sealed_there : (m : Message) (read : Result Message ℕ) (s : Statement) → rea
 sealed_there m read s same there = subst (λ (r : Result Message ℕ). Among (sealed_of s) (sealed_in r)) (sym same) (among_map sealed_of (statements_in m) s there)
 
 -- a member's statement that came is in a Send of its trail
-stated_made : (faulty : ℕ → Bool) (secret : List ℕ) (trails : List Recorded) (member : ℕ) (s : Statement) → faulty member ≡ false → Each (MayCome faulty trails secret) trails → (c : Came secret trails s) → signer_of s ≡ Member member
+pub stated_made : (faulty : ℕ → Bool) (secret : List ℕ) (trails : List Recorded) (member : ℕ) (s : Statement) → faulty member ≡ false → Each (MayCome faulty trails secret) trails → (c : Came secret trails s) → signer_of s ≡ Member member
     → IsMade trails member (sealed_of s)
 stated_made faulty secret trails member s correct may c who =
     let of = each_among (MayCome faulty trails secret) trails c.trail may c.there in

@@ -45,7 +45,7 @@ impl Drop for Sent {
 /// A premise of a play.
 #[derive(Clone, Copy, Debug, PartialEq, Eq)]
 pub enum Premise {
-    /// At most f members of the view were declared faulty.
+    /// At most f members of each view of the list were declared faulty.
     TooManyFaulty,
     /// Nothing is forged. Each statement of an injected message whose tag verifies stands in a
     /// message that its signer has sent, unless that signer is faulty or rogue.

@@ -1,4 +1,4 @@
-use Rattle.std.proofs.Common.{◌≡◌, ◌∙◌, [], ◌∷◌, ◌++◌, None, refl, sym, ap, true≢false}
+use Rattle.std.proofs.Common.{◌≡◌, ◌∙◌, [], ◌∷◌, ◌++◌, None, refl, sym, ap, true≢false, ℕ, IfSome, subst}
 use Rattle.trail.specs.declared.event.TrailEvent.TheVariants.{Happens}
 use Rattle.smart_statements.specs.declared.entry.NodeEvent.TheVariants.{Arrive}
 use Rattle.group_ends.specs.Ports.{ends}
@@ -30,6 +30,7 @@ invariant_of-self-2 g c =
       late = late-mute es new e 1 longer refl (ends s.ports.items) tt s.late;
       apart = s.apart;
       named = (s.named.0 ∙ ap g.P.Owner.receivers same, (s.named.1.0 ∙ ap g.P.Owner.leaving same, c.take.ensures.links ∙ s.named.1.1 ∙ ap g.P.Owner.arriving same));
+      own = subst (λ (n : ℕ). IfSome s.handed (λ h. h.number ≡ n)) same s.own;
     }
 
 pub invariant_of-self-in-Break-1 : goal.invariant_of-self-in-Break-1
@@ -53,6 +54,7 @@ invariant_of-self-in-Break-1 g c =
       late = late-mute es new e noted.0 noted.1 refl (ends s.ports.items) tt s.late;
       apart = s.apart;
       named = (s.named.0 ∙ ap g.P.Owner.receivers same, (s.named.1.0 ∙ ap g.P.Owner.leaving same, c.take.ensures.links ∙ s.named.1.1 ∙ ap g.P.Owner.arriving same));
+      own = subst (λ (n : ℕ). IfSome s.handed (λ h. h.number ≡ n)) same s.own;
     }
 
 pub invariant_of-self : goal.invariant_of-self
@@ -71,4 +73,5 @@ invariant_of-self g c =
       late = s.late;
       apart = s.apart;
       named = (s.named.0, (s.named.1.0, c.take.ensures.links ∙ s.named.1.1));
+      own = s.own;
     }

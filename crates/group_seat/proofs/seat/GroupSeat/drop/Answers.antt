@@ -12,4 +12,5 @@ invariant_of-self g c =
       late = s.late;
       apart = s.apart;
       named = s.named;
+      own = s.own;
     }

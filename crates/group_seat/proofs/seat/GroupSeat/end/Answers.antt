@@ -1,4 +1,4 @@
-use Rattle.std.proofs.Common.{◌≡◌, ◌∙◌, [], ◌∷◌, ◌++◌, None, refl, sym, ap, true≢false}
+use Rattle.std.proofs.Common.{◌≡◌, ◌∙◌, [], ◌∷◌, ◌++◌, None, refl, sym, ap, true≢false, ℕ, IfSome, subst}
 use Rattle.trail.specs.declared.event.TrailEvent.TheVariants.{End}
 use Rattle.group_ends.specs.Ports.{ends}
 use Rattle.group_ends.proofs.Offering.{carries-front, carries-mute}
@@ -24,6 +24,7 @@ invariant_of-self-2 g c =
       late = late-mute es new End 1 longer refl (ends s.ports.items) tt s.late;
       apart = s.apart;
       named = (s.named.0 ∙ ap g.P.Owner.receivers same, (s.named.1.0 ∙ ap g.P.Owner.leaving same, s.named.1.1 ∙ ap g.P.Owner.arriving same));
+      own = subst (λ (n : ℕ). IfSome s.handed (λ h. h.number ≡ n)) same s.own;
     }
 
 pub invariant_of-self : goal.invariant_of-self
@@ -43,4 +44,5 @@ invariant_of-self g c =
       late = late-mute es new End 1 longer refl (ends s.ports.items) tt s.late;
       apart = s.apart;
       named = (s.named.0 ∙ ap g.P.Owner.receivers same, (s.named.1.0 ∙ ap g.P.Owner.leaving same, s.named.1.1 ∙ ap g.P.Owner.arriving same));
+      own = subst (λ (n : ℕ). IfSome s.handed (λ h. h.number ≡ n)) same s.own;
     }

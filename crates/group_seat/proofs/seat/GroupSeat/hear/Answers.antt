@@ -32,4 +32,5 @@ invariant_of-self g c =
       late = s.late;
       apart = s.apart;
       named = (s.named.0, (s.named.1.0, same.0 ∙ s.named.1.1));
+      own = s.own;
     }

@@ -17,6 +17,7 @@ invariant_of-self g c =
       late = s.late;
       apart = s.apart;
       named = s.named;
+      own = s.own;
     }
 
 pub returns-clause-came : goal.returns-clause-came

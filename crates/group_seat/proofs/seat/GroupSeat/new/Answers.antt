@@ -22,4 +22,5 @@ invariant_of-result g c =
       late = subst (DropsLate (ends a.ports.items) []) (sym none) tt;
       apart = c.requires.ports.0;
       named = c.requires.named;
+      own = tt;
     }

@@ -1,4 +1,4 @@
-use Rattle.std.proofs.Common.{◌∙◌, None, refl, sym, ap, subst, true≢false}
+use Rattle.std.proofs.Common.{◌≡◌, ◌∙◌, None, refl, sym, ap, subst, true≢false, ℕ, IfSome}
 use Rattle.group_ends.specs.Ports.{AreApart}
 use Rattle.group_ends.proofs.Seated.{come-most, come-same, most-same}
 use Rattle.group_seat.proofs.seat.GroupSeat.send.Goals as goal
@@ -20,6 +20,7 @@ invariant_of-self-2 g c =
       late = c.send.ensures.late;
       apart = subst AreApart (sym c.send.ensures.ports.0) s.apart;
       named = (c.send.ensures.ports.0 ∙ s.named.0 ∙ ap g.P.Owner.receivers same, (c.send.ensures.ports.1 ∙ s.named.1.0 ∙ ap g.P.Owner.leaving same, s.named.1.1 ∙ ap g.P.Owner.arriving same));
+      own = subst (λ (n : ℕ). IfSome s.handed (λ h. h.number ≡ n)) same s.own;
     }
 
 pub invariant_of-self : goal.invariant_of-self
@@ -37,4 +38,5 @@ invariant_of-self g c =
       late = c.send.ensures.late;
       apart = subst AreApart (sym c.send.ensures.ports.0) s.apart;
       named = (c.send.ensures.ports.0 ∙ s.named.0 ∙ ap g.P.Owner.receivers same, (c.send.ensures.ports.1 ∙ s.named.1.0 ∙ ap g.P.Owner.leaving same, s.named.1.1 ∙ ap g.P.Owner.arriving same));
+      own = subst (λ (n : ℕ). IfSome s.handed (λ h. h.number ≡ n)) same s.own;
     }

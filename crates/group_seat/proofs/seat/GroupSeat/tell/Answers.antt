@@ -30,6 +30,7 @@ invariant_of-self g c =
       late = subst (λ (ts : List Target). DropsLate ts [] es) (sym same.0) s.late;
       apart = subst AreApart (sym same.0) s.apart;
       named = (same.0 ∙ s.named.0, (same.1.0 ∙ s.named.1.0, s.named.1.1));
+      own = s.own;
     }
 
 pub returns-clause-link : goal.returns-clause-link

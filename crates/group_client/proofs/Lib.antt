@@ -1,0 +1,4 @@
+pub mod Asked
+pub mod Behind
+pub mod Played
+pub mod Told

@@ -1,0 +1,4 @@
+pub mod Amounts
+pub mod Ends
+pub mod Lines
+pub mod Loops

@@ -1,0 +1,5 @@
+pub mod Apart
+pub mod Came
+pub mod Columns
+pub mod Dealt
+pub mod Rejoined
