@@ -1,4 +1,5 @@
 mod AuditRows
+mod GroupRows
 mod NodeRows
 mod Optioned
 mod Parsing

@@ -8,7 +8,7 @@ use Rattle.clap.specs.Walk.{first_of}
 use Rattle.clap.specs.declared.error.kind.ErrorKind.{ErrorKind}
 use Rattle.clap.specs.declared.error.kind.ErrorKind.TheVariants as kinds
 use Rattle.smart_base.specs.Decimals.{number_of}
-use Rattle.command_words.specs.Options.{node_shape, node_of}
+use Rattle.command_words.specs.Options.{group_run_of, group_shape, node_shape, node_of}
 use Rattle.command_words.specs.declared.command.Command.{Command}
 use Rattle.command_words.specs.declared.command.Command.TheVariants as commands
 use Rattle.command_words.specs.declared.command.NoCommand.{NoCommand}
@@ -39,7 +39,7 @@ bare_program = record {
 
 -- the program with its subcommands
 abbrev pub program : App
-program = with_subcommand (with_subcommand (with_subcommand (with_subcommand bare_program world_shape) load_shape) node_shape) audit_shape
+program = with_subcommand (with_subcommand (with_subcommand (with_subcommand (with_subcommand bare_program world_shape) load_shape) node_shape) group_shape) audit_shape
 
 -- the load of a number of asks, if it is one of 1 to 100,000
 abbrev pub load_with : Option ℕ → Option Command
@@ -57,6 +57,7 @@ command_named name rows =
     if bytes_eq name (codes "world") then Some commands.World
     else if bytes_eq name (codes "load") then load_of (first_of (codes "N") rows)
     else if bytes_eq name (codes "node") then option_map commands.Node (node_of rows)
+    else if bytes_eq name (codes "group") then option_map commands.Group (group_run_of rows)
     else if bytes_eq name (codes "audit") then Some commands.Audit
     else None
 
@@ -70,8 +71,8 @@ abbrev pub command_if : Kinds → Option (Text × List Row) → Option Command
 command_if [] met = command_in met
 command_if (kind ∷ kinds) met = None
 
--- The command that words are: nothing is wrong with them, they name its subcommand and, of `load`, a number from 1 to 100,000; of `node`, each
--- option has a value in its range.
+-- The command that words are: nothing is wrong with them, they name its subcommand and, of `load`, a number from 1 to 100,000; of `node` and `group`,
+-- each option has a value in its range.
 unfoldable pub command_of : List Text → Option Command
 command_of words = command_if (fault_of program words) (subcommand_of program words)
 

@@ -1,5 +1,5 @@
--- The options of `node`, and the values that they may have.
-use Rattle.std.specs.Prelude.{ℕ, ◌+◌, ◌*◌, ◌==◌, nat_le, Bool, true, ◌&&◌, ◌||◌, List, [], ◌∷◌, ◌++◌, take, drop, length, Option, Some, None, option_and_then, Result, Ok, Err, if◌then◌else◌, codes}
+-- The options of `node` and `group`, and the values that they may have.
+use Rattle.std.specs.Prelude.{ℕ, ◌+◌, ◌*◌, ◌^◌, ◌==◌, nat_le, Bool, true, ◌&&◌, ◌||◌, List, [], ◌∷◌, ◌++◌, take, drop, length, Option, Some, None, option_and_then, Result, Ok, Err, if◌then◌else◌, codes}
 use Rattle.std.specs.List.{list_all, position}
 use Rattle.clap.specs.Words.{Row, Rule, Shape, Text, new_rule}
 use Rattle.clap.specs.Simple.{new_shape}
@@ -9,6 +9,7 @@ use Rattle.hex.specs.declared.error.FromHexError.{FromHexError}
 use Rattle.smart_base.specs.Decimals.{number_of}
 use Rattle.smart_base.specs.declared.limits.TheConstants.{FAULTY, LAST_PERIOD, MEMBERS, PERIOD}
 use Rattle.command_words.specs.declared.node_words.GroupSize.{GroupSize}
+use Rattle.command_words.specs.declared.node_words.GroupWords.{GroupWords}
 use Rattle.command_words.specs.declared.node_words.NodeWords.{NodeWords}
 
 -- ---- the options
@@ -29,6 +30,12 @@ with_option s option = record s { rules = s.rules ++ option ∷ [] }
 abbrev pub node_shape : Shape
 node_shape = record (new_shape (codes "node")) {
   rules = needed_rule (codes "id") ∷ needed_rule (codes "dir") ∷ needed_rule (codes "secret") ∷ needed_rule (codes "group") ∷ option_rule (codes "period") ∷ [];
+}
+
+-- the subcommand `group`: six options that have to be there
+abbrev pub group_shape : Shape
+group_shape = record (new_shape (codes "group")) {
+  rules = needed_rule (codes "n") ∷ needed_rule (codes "f") ∷ needed_rule (codes "period") ∷ needed_rule (codes "turns") ∷ needed_rule (codes "asks") ∷ needed_rule (codes "dir") ∷ [];
 }
 
 -- ---- their values
@@ -99,6 +106,20 @@ node_of rows = do
   period ← period_of group.members (first_of (codes "period") rows)
   Some (record { id = id; dir = dir; secret = secret; group = group; period = period })
 
+-- the group of as many members as one option says, of which as many may be faulty as another says
+abbrev pub group_size_of : List Row → Option GroupSize
+group_size_of rows = group_with (first_of (codes "n") rows >>= number_in 1 MEMBERS) (first_of (codes "f") rows >>= number_in 0 FAULTY)
+
+-- the run of a group that what was found for the options is, if it is one
+abbrev pub group_run_of : List Row → Option GroupWords
+group_run_of rows = do
+  group ← group_size_of rows
+  period ← first_of (codes "period") rows >>= number_in group.members LAST_PERIOD
+  turns ← first_of (codes "turns") rows >>= number_in 0 (2 ^ 63)
+  asks ← first_of (codes "asks") rows >>= number_in 0 10000
+  dir ← first_of (codes "dir") rows
+  Some (record { group = group; period = period; turns = turns; asks = asks; dir = dir })
+
 -- ---- words that are written out
 
 -- the words of `node` with these values, and more words
@@ -109,3 +130,16 @@ node_words id dir secret group more =
 -- the node of member 1 in a group of four, with the directory `d`, the secret `sm` and this period
 abbrev pub first_node : ℕ → NodeWords
 first_node period = record { id = 1; dir = codes "d"; secret = codes "sm"; group = record { members = 4; faulty = 1 }; period = period }
+
+-- the words of `group` with these values, and more words
+abbrev pub group_words : Text → Text → Text → Text → Text → List Text → List Text
+group_words n f period turns asks more =
+    codes "group" ∷ codes "--n" ∷ n ∷ codes "--f" ∷ f ∷ codes "--period" ∷ period ∷ codes "--turns" ∷ turns ∷ codes "--asks" ∷ asks ∷ more
+
+-- the words of its directory `d`
+abbrev pub in_d : List Text
+in_d = codes "--dir" ∷ codes "d" ∷ []
+
+-- the run of a group of four with the period 8, in the directory `d`
+abbrev pub first_group : ℕ → ℕ → GroupWords
+first_group turns asks = record { group = record { members = 4; faulty = 1 }; period = 8; turns = turns; asks = asks; dir = codes "d" }

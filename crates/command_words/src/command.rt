@@ -5,11 +5,11 @@ ghost use Rattle.clap.specs.declared.builder.command.Command.TheViews.{out-Comma
 ghost use Rattle.clap.specs.Walk.{first_of};
 ghost use Rattle.command_words.specs.Commands.{Answers, Refuses, audit_shape, bare_program, command_in, command_of, count_rule, is_shown, load_of, load_shape, load_with, program, world_shape};
 ghost use Rattle.command_words.specs.Ranges.{FitsCommand};
-ghost use Rattle.command_words.specs.Options.{node_shape, node_of};
+ghost use Rattle.command_words.specs.Options.{group_run_of, group_shape, node_shape, node_of};
 
-use crate::node_options::node_parser;
-use crate::node_values::node_met;
-use crate::node_words::NodeWords;
+use crate::node_options::{group_parser, node_parser};
+use crate::node_values::{group_run_met, node_met};
+use crate::node_words::{GroupWords, NodeWords};
 use clap::error::ErrorKind;
 use clap::{Arg, ArgMatches, Command as Parser, Error};
 use smart_base::decimal::number_of;
@@ -25,6 +25,8 @@ pub enum Command {
     Load { count: u32 },
     /// `node`: runs one member of a group over frames.
     Node(NodeWords),
+    /// `group`: runs a group of members and one client in threads.
+    Group(GroupWords),
     /// `audit`: audits the recorded runs of the input.
     Audit,
 }
@@ -111,6 +113,14 @@ fn with_node<'a>(alloc: Global, parser: Parser<'a>) -> Result<Parser<'a>, AllocE
     parser.subcommand(node)
 }
 
+/// Adds the subcommand `group`. Error: want of memory.
+fn with_group<'a>(alloc: Global, parser: Parser<'a>) -> Result<Parser<'a>, AllocError>
+    ensures { IfOk result (λ more. app_of more ≡ with_subcommand (app_of parser.entry) group_shape) }
+{
+    let group = group_parser(alloc)?;
+    parser.subcommand(group)
+}
+
 /// Adds the subcommand `audit`. Error: want of memory.
 fn with_audit<'a>(alloc: Global, parser: Parser<'a>) -> Result<Parser<'a>, AllocError>
     ensures { IfOk result (λ more. app_of more ≡ with_subcommand (app_of parser.entry) audit_shape) }
@@ -129,6 +139,7 @@ fn program_parser<'a>(alloc: Global) -> Result<Parser<'a>, AllocError>
     let parser = with_world(alloc, parser)?;
     let parser = with_load(alloc, parser)?;
     let parser = with_node(alloc, parser)?;
+    let parser = with_group(alloc, parser)?;
     with_audit(alloc, parser)
 }
 
@@ -166,6 +177,18 @@ fn node_command(alloc: Global, found: &ArgMatches<'_>) -> Result<Option<Command>
     }
 }
 
+/// The run of a group that the arguments of the subcommand `group` are, if they are one. Error: want of
+/// memory.
+fn group_command(alloc: Global, found: &ArgMatches<'_>) -> Result<Option<Command>, AllocError>
+    ensures is { IfOk result (λ command. command ≡ option_map Command.Group (group_run_of (rows_of (found_of found.now)))) }
+    ensures fits { IfOk result (λ command. IfSome command FitsCommand) }
+{
+    match group_run_met(alloc, found)? {
+        Some(run) => Ok(Some(Command::Group(run))),
+        None => Ok(None),
+    }
+}
+
 /// The command that the parser has met. Error: want of memory.
 fn command_met(alloc: Global, matches: &ArgMatches<'_>) -> Result<Option<Command>, AllocError>
     ensures is { IfOk result (λ command. command ≡ command_in (subcommand_rows_of matches.now)) }
@@ -175,6 +198,7 @@ fn command_met(alloc: Global, matches: &ArgMatches<'_>) -> Result<Option<Command
         Some(("world", _)) => Ok(Some(Command::World)),
         Some(("load", found)) => Ok(load_met(found)),
         Some(("node", found)) => node_command(alloc, found),
+        Some(("group", found)) => group_command(alloc, found),
         Some(("audit", _)) => Ok(Some(Command::Audit)),
         _ => Ok(None),
     }
@@ -231,7 +255,7 @@ fn refusal(alloc: Global, error: &Error) -> NoCommand
 
 /// Reads the words behind the program's name.
 pub fn read_words(alloc: Global, words: &[String]) -> Result<Command, NoCommand>
-    // They are a command exactly by the parser's meaning and, of `load` and `node`, with values in range. All else is none.
+    // They are a command exactly by the parser's meaning and, of `load`, `node` and `group`, with values in range. All else is none.
     ensures command { IfOk result (λ command. command_of (map string_bytes words.now) ≡ Some command) }
     ensures fits { IfOk result FitsCommand }
     ensures none { IfErr result (Refuses (map string_bytes words.now)) }

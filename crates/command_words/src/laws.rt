@@ -1,8 +1,8 @@
 //! Laws of words. They speak of the definitions alone.
 ghost use Rattle.std.specs.Prelude.{◌≡◌, [], ◌∷◌, codes, Some, None, true};
 ghost use Rattle.command_words.specs.Commands.{IsShown, IsWrong, command_of, may_show};
-ghost use Rattle.command_words.specs.Options.{first_node, node_words};
-ghost use Rattle.command_words.specs.declared.command.Command.TheVariants.{World, Load, Node, Audit};
+ghost use Rattle.command_words.specs.Options.{first_group, first_node, group_words, in_d, node_words};
+ghost use Rattle.command_words.specs.declared.command.Command.TheVariants.{World, Load, Node, Group, Audit};
 
 /// The words that are the command `world`: this word, and also with the mark `--`, behind which it
 /// takes nothing.
@@ -110,4 +110,34 @@ pub fn other_audits_are_no_command()
     ensures behind_the_mark { IsWrong (codes "--" ∷ codes "audit" ∷ []) }
     ensures option { IsWrong (codes "audit" ∷ codes "--dir" ∷ codes "D" ∷ []) }
     ensures flag { IsWrong (codes "audit" ∷ codes "-x" ∷ []) }
+{}
+
+/// Words that are a run of a group: the word `group`, and each option with a value in its range. A value
+/// stands behind its option, or behind `=`. The options may stand in any order.
+pub fn values_in_range_are_a_group()
+    ensures usual { command_of (group_words (codes "4") (codes "1") (codes "8") (codes "1000000000") (codes "3") in_d) ≡ Some (Group (first_group 1000000000 3)) }
+    ensures no_turns { command_of (group_words (codes "4") (codes "1") (codes "8") (codes "0") (codes "0") in_d) ≡ Some (Group (first_group 0 0)) }
+    ensures most { command_of (group_words (codes "4") (codes "1") (codes "8") (codes "9223372036854775808") (codes "10000") in_d) ≡ Some (Group (first_group 9223372036854775808 10000)) }
+    ensures joined { command_of (codes "group" ∷ codes "--dir=d" ∷ codes "--asks=3" ∷ codes "--turns=5" ∷ codes "--period=8" ∷ codes "--f=1" ∷ codes "--n=4" ∷ []) ≡ Some (Group (first_group 5 3)) }
+{}
+
+/// Words that lack an option, have another one, or give one another value are no run of a group, and the
+/// parser's text is not shown.
+pub fn other_values_are_no_group()
+    ensures none { IsWrong (codes "group" ∷ []) }
+    ensures no_dir { IsWrong (group_words (codes "4") (codes "1") (codes "8") (codes "5") (codes "3") []) }
+    ensures few_members { IsWrong (group_words (codes "3") (codes "1") (codes "8") (codes "5") (codes "3") in_d) }
+    ensures no_members { IsWrong (group_words (codes "0") (codes "0") (codes "8") (codes "5") (codes "3") in_d) }
+    ensures many_members { IsWrong (group_words (codes "32") (codes "10") (codes "32") (codes "5") (codes "3") in_d) }
+    ensures many_faulty { IsWrong (group_words (codes "31") (codes "11") (codes "31") (codes "5") (codes "3") in_d) }
+    ensures short_period { IsWrong (group_words (codes "4") (codes "1") (codes "3") (codes "5") (codes "3") in_d) }
+    ensures long_period { IsWrong (group_words (codes "4") (codes "1") (codes "1048577") (codes "5") (codes "3") in_d) }
+    ensures many_turns { IsWrong (group_words (codes "4") (codes "1") (codes "8") (codes "9223372036854775809") (codes "3") in_d) }
+    ensures many_asks { IsWrong (group_words (codes "4") (codes "1") (codes "8") (codes "5") (codes "10001") in_d) }
+    ensures leading_zero { IsWrong (group_words (codes "4") (codes "1") (codes "8") (codes "5") (codes "03") in_d) }
+    ensures no_number { IsWrong (group_words (codes "4") (codes "x") (codes "8") (codes "5") (codes "3") in_d) }
+    ensures twice { IsWrong (group_words (codes "4") (codes "1") (codes "8") (codes "5") (codes "3") (codes "--n" ∷ codes "4" ∷ in_d)) }
+    ensures secret { IsWrong (group_words (codes "4") (codes "1") (codes "8") (codes "5") (codes "3") (codes "--secret" ∷ codes "736d" ∷ in_d)) }
+    ensures more { IsWrong (group_words (codes "4") (codes "1") (codes "8") (codes "5") (codes "3") (codes "word" ∷ in_d)) }
+    ensures help { IsShown (codes "group" ∷ codes "--help" ∷ []) }
 {}

@@ -1,8 +1,9 @@
-//! The options of `node`, as the parser is told of them.
-ghost use Rattle.std.specs.Prelude.{◌≡◌, IfOk, false};
+//! The options of `node` and `group`, as the parser is told of them.
+ghost use Rattle.std.specs.Prelude.{◌≡◌, IfOk, codes, false};
+ghost use Rattle.clap.specs.Simple.{new_shape};
 ghost use Rattle.clap.specs.Words.{rule_of, shape_of};
 ghost use Rattle.clap.specs.declared.builder.command.Command.TheViews.{out-Command};
-ghost use Rattle.command_words.specs.Options.{needed_rule, node_shape, option_rule, with_option};
+ghost use Rattle.command_words.specs.Options.{group_shape, needed_rule, node_shape, option_rule, with_option};
 
 use clap::{Arg, Command as Parser};
 use std::alloc::{AllocError, Global};
@@ -77,5 +78,64 @@ pub(crate) fn node_parser<'a>(alloc: Global) -> Result<Parser<'a>, AllocError>
             "P",
             "The places in which each member takes one checkpoint, 1024 if not told",
         ),
+    )
+}
+
+/// The subcommand `group` before its options.
+fn bare_group<'a>(alloc: Global) -> Parser<'a>
+    ensures shape { shape_of result ≡ new_shape (codes "group") }
+    ensures local { (out-Command result).has_globals ≡ false }
+{
+    Parser::new(alloc, "group")
+        .about("Run a group of members and one client in threads, and audit what they recorded")
+        .after_help(
+            "Example:\n  smart group --n 4 --f 1 --period 8 --turns 1000000 --asks 3 --dir data",
+        )
+}
+
+/// The subcommand `group`. Error: want of memory.
+pub(crate) fn group_parser<'a>(alloc: Global) -> Result<Parser<'a>, AllocError>
+    ensures shape { IfOk result (λ group. shape_of group ≡ group_shape) }
+    ensures local { IfOk result (λ group. (out-Command group).has_globals ≡ false) }
+{
+    let group = bare_group(alloc);
+    let group = with_option(
+        group,
+        needed_option(alloc, "n", "N", "The number of members"),
+    )?;
+    let group = with_option(
+        group,
+        needed_option(alloc, "f", "F", "The number of members that may be faulty"),
+    )?;
+    let group = with_option(
+        group,
+        needed_option(
+            alloc,
+            "period",
+            "P",
+            "The places in which each member takes one checkpoint",
+        ),
+    )?;
+    let group = with_option(
+        group,
+        needed_option(
+            alloc,
+            "turns",
+            "T",
+            "The empty polls of the client behind which the threads end",
+        ),
+    )?;
+    let group = with_option(
+        group,
+        needed_option(
+            alloc,
+            "asks",
+            "A",
+            "The number of requests of the client, up to 10000",
+        ),
+    )?;
+    with_option(
+        group,
+        needed_option(alloc, "dir", "D", "The directory of the stores and trails"),
     )
 }

@@ -1,12 +1,12 @@
-//! The values of the options of `node`.
+//! The values of the options of `node` and `group`.
 ghost use Rattle.std.specs.Prelude.{◌≡◌, ◌≤◌, ◌<◌, IfOk, IfSome, Ok, Some, codes, length, option_and_then};
 ghost use Rattle.std.specs.List.{list_all};
 ghost use Rattle.clap.specs.Words.{found_of, rows_of};
 ghost use Rattle.clap.specs.Walk.{first_of};
-ghost use Rattle.command_words.specs.Options.{bytes_read, comma_in, group_at, group_of, group_with, is_lower_digit, member_of, node_of, number_in, period_of, secret_of};
-ghost use Rattle.command_words.specs.Ranges.{FitsGroup, FitsNode};
+ghost use Rattle.command_words.specs.Options.{bytes_read, comma_in, group_at, group_of, group_run_of, group_size_of, group_with, is_lower_digit, member_of, node_of, number_in, period_of, secret_of};
+ghost use Rattle.command_words.specs.Ranges.{FitsGroup, FitsGroupRun, FitsNode};
 
-use crate::node_words::{GroupSize, NodeWords};
+use crate::node_words::{GroupSize, GroupWords, NodeWords};
 use clap::ArgMatches;
 use hex::FromHexError;
 use smart_base::decimal::number_of;
@@ -206,5 +206,67 @@ pub(crate) fn node_met(
         secret,
         group,
         period,
+    }))
+}
+
+/// The most empty polls that `group` may be told.
+const LAST_TURNS: u64 = 9_223_372_036_854_775_808;
+
+/// The most asks of a run of a group.
+const LAST_ASKS: u64 = 10_000;
+
+/// The number that the option of a name is, if it is one of a range.
+#[tactic(auto, using(crate::proofs::Parsing::first_word))]
+fn number_met(matches: &ArgMatches<'_>, name: &str, least: u64, most: u64) -> Option<u64>
+    ensures is { result ≡ option_and_then (number_in least most) (first_of name.now (rows_of (found_of matches.now))) }
+    ensures within { IfSome result (λ n. (least ≤ n) × (n ≤ most)) }
+{
+    number_in(matches.get_str(name)?.as_bytes(), least, most)
+}
+
+/// The group of `--n` members, of which `--f` may be faulty.
+fn group_size_met(matches: &ArgMatches<'_>) -> Option<GroupSize>
+    ensures is { result ≡ group_size_of (rows_of (found_of matches.now)) }
+    ensures fits { IfSome result FitsGroup }
+{
+    let members = number_met(matches, "n", 1, MEMBERS as u64)?;
+    let faulty = number_met(matches, "f", 0, u64::from(FAULTY))?;
+    group_with(members as u8, faulty as u8)
+}
+
+/// The run of a group that the options are, if they are one. Error: want of memory.
+pub(crate) fn group_run_met(
+    alloc: Global,
+    matches: &ArgMatches<'_>,
+) -> Result<Option<GroupWords>, AllocError>
+    ensures is { IfOk result (λ run. run ≡ group_run_of (rows_of (found_of matches.now))) }
+    ensures fits { IfOk result (λ run. IfSome run FitsGroupRun) }
+{
+    let Some(group) = group_size_met(matches) else {
+        return Ok(None);
+    };
+    let Some(period) = number_met(
+        matches,
+        "period",
+        u64::from(group.members),
+        u64::from(LAST_PERIOD),
+    ) else {
+        return Ok(None);
+    };
+    let Some(turns) = number_met(matches, "turns", 0, LAST_TURNS) else {
+        return Ok(None);
+    };
+    let Some(asks) = number_met(matches, "asks", 0, LAST_ASKS) else {
+        return Ok(None);
+    };
+    let Some(dir) = directory_met(alloc, matches)? else {
+        return Ok(None);
+    };
+    Ok(Some(GroupWords {
+        group,
+        period: period as u32,
+        turns,
+        asks: asks as u32,
+        dir,
     }))
 }

@@ -16,4 +16,5 @@ code_of ends.DiskFault = 6
 code_of (ends.Premise line which) = 7
 code_of (ends.Limit line) = 8
 code_of (ends.Differs kind member event) = 9
+code_of (ends.GaveUp client polls) = 10
 code_of ends.NoMemory = 11

@@ -65,6 +65,12 @@ pub enum Status {
         member: u16,
         event: u64,
     },
+    /// A request of this client has no reply. So many polls since it was asked found nothing, and nothing
+    /// is left to happen.
+    GaveUp {
+        client: u16,
+        polls: u64,
+    },
     /// Want of memory.
     NoMemory,
 }
@@ -84,6 +90,7 @@ impl Status {
             Status::Premise { .. } => 7,
             Status::Limit { .. } => 8,
             Status::Differs { .. } => 9,
+            Status::GaveUp { .. } => 10,
             Status::NoMemory => 11,
         }
     }

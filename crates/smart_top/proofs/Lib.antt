@@ -1,9 +1,13 @@
 pub mod Apart
 pub mod Auditing
+pub mod Begun
 pub mod ReadingCores
 pub mod ReadingPlays
 pub mod ReadingTells
 pub mod Feeding
+pub mod Grouping
+pub mod Keeping
+pub mod OneReading
 pub mod Ending
 pub mod Closing
 pub mod LoadHeader

@@ -209,4 +209,5 @@ is_complete n written now wants wants' ends.DiskFault e whole fine = absurd e
 is_complete n written now wants wants' (ends.Premise line which) e whole fine = absurd (none-refused (load_read node_courses n).refused whole e.refused)
 is_complete n written now wants wants' (ends.Limit line) e whole fine = absurd (none-refused (load_read node_courses n).refused whole e.refused)
 is_complete n written now wants wants' (ends.Differs kind member event) e whole fine = absurd e
+is_complete n written now wants wants' (ends.GaveUp client polls) e whole fine = absurd e
 is_complete n written now wants wants' ends.NoMemory e whole fine = inr refl

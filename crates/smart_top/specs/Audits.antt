@@ -54,4 +54,5 @@ IsJudged ends.DiskFault = ⊥
 IsJudged (ends.Premise line which) = ⊥
 IsJudged (ends.Limit line) = ⊥
 IsJudged (ends.Differs kind member event) = Unit {0}
+IsJudged (ends.GaveUp client polls) = ⊥
 IsJudged ends.NoMemory = Unit {0}

@@ -3,3 +3,4 @@ pub mod Runs
 pub mod Loads
 pub mod Nodes
 pub mod Audits
+pub mod Groups

@@ -77,4 +77,5 @@ LoadEnd n written written' wants wants' ends.DiskFault = ⊥
 LoadEnd n written written' wants wants' (ends.Premise line which) = RefusedLine n written written' (ends.Premise line which)
 LoadEnd n written written' wants wants' (ends.Limit line) = RefusedLine n written written' (ends.Limit line)
 LoadEnd n written written' wants wants' (ends.Differs kind member event) = ⊥
+LoadEnd n written written' wants wants' (ends.GaveUp client polls) = ⊥
 LoadEnd n written written' wants wants' ends.NoMemory = Appends written written' [] ⊎ (Rose wants wants' × WroteSummaryFront n written written')

@@ -105,4 +105,5 @@ RunEnd left left' written written' wants wants' ends.DiskFault = ⊥
 RunEnd left left' written written' wants wants' (ends.Premise line which) = Ends left written written' (ends.Premise line which)
 RunEnd left left' written written' wants wants' (ends.Limit line) = Ends left written written' (ends.Limit line)
 RunEnd left left' written written' wants wants' (ends.Differs kind member event) = ⊥
+RunEnd left left' written written' wants wants' (ends.GaveUp client polls) = ⊥
 RunEnd left left' written written' wants wants' ends.NoMemory = WroteLines left written written' ⊎ (Rose wants wants' × WroteFront left written written')

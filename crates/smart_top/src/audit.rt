@@ -11,7 +11,7 @@ use smart_io::stream::{Sink, Source};
 use std::alloc::Global;
 use world_rules::line::Kind;
 
-fn kind_of(found: &Found) -> DifferenceKind
+pub(crate) fn kind_of(found: &Found) -> DifferenceKind
     ensures { result ≡ kind_of found.now }
 {
     match found {

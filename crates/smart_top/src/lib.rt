@@ -2,6 +2,7 @@
 #![tactic(auto)]
 
 pub mod audit;
+pub mod group;
 pub mod laws;
 pub mod load;
 pub mod node;

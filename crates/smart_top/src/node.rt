@@ -43,7 +43,7 @@ fn first_members(alloc: Global, count: u16) -> Result<Sequence<MemberId>, AllocE
 
 /// The first view of a group. Error: want of memory.
 #[tactic(auto, using(world_script::proofs::Members::first_view))]
-fn first_view(alloc: Global, group: GroupSize) -> Result<View, AllocError>
+pub(crate) fn first_view(alloc: Global, group: GroupSize) -> Result<View, AllocError>
     requires { FitsGroup group }
     ensures { IfOk result (λ view. view ≡ first_view group) }
 {

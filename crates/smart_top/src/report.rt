@@ -53,6 +53,7 @@ fn text_of(alloc: Global, status: Status) -> Result<String, AllocError> {
         }
         Status::Limit { line } => write!(&mut text, "smart: line {line}: limit\n")?,
         Status::Differs { .. } => text.push_str("smart: differs\n")?,
+        Status::GaveUp { .. } => text.push_str("smart: gave up\n")?,
         Status::NoMemory => text.push_str("smart: no memory\n")?,
     }
     Ok(text)

@@ -1,11 +1,8 @@
 //! Runs over inputs and outputs in memory that fail, and over long inputs.
-use clock_gate::clock::StepClock;
+use crate::scene::{Scene, copied};
 use clock_gate::gate::OpenGate;
-use disk_model::room::MemRoom;
-use node_rooms::memory::MemTrails;
 use script_play::status::Status;
-use smart_io::memory::{MemSink, MemSource};
-use smart_top::top::run;
+use smart_io::memory::MemSource;
 use std::alloc::Global;
 use std::process::Abort;
 use std::sync::Wait;
@@ -40,16 +37,8 @@ const TRAIL: &[u8] = b"\0\0\0\x2e\
 
 const COHERENT: &[u8] = b"coherent\n";
 
-fn copied<T: Copy>(rt: &impl Abort, alloc: Global, items: &[T]) -> Vec<T> {
-    Vec::from_slice(alloc, items).expect(rt, "there is memory")
-}
-
-fn sink(alloc: Global, failing: Vec<u64>) -> MemSink {
-    MemSink::new(Vec::new(alloc), failing)
-}
-
-/// Runs a command's words over a script, where these calls of the input and of the output fail: how it
-/// ends, what it writes and what it says.
+/// Runs a command over a script, where these calls of the input and of the output fail: how it ends, what it
+/// writes and what it says.
 fn played<R: Abort + Threads + Wait + Sync>(
     rt: &R,
     alloc: Global,
@@ -58,26 +47,17 @@ fn played<R: Abort + Threads + Wait + Sync>(
     reads: &[u64],
     writes: &[u64],
 ) -> (Status, Vec<u8>, Vec<u8>) {
-    let mut words = Vec::new(alloc);
-    for word in command.split(' ') {
-        let word = String::from_str(alloc, word).expect(rt, "there is memory");
-        words.push(word).expect(rt, "there is memory");
-    }
-    let mut input = MemSource::new(script, copied(rt, alloc, reads));
-    let mut output = sink(alloc, copied(rt, alloc, writes));
-    let mut errors = sink(alloc, Vec::new(alloc));
-    let status = run(
-        rt,
-        alloc,
-        words.as_slice(),
-        &mut input,
-        &mut output,
-        &mut errors,
-        &mut MemRoom::new(alloc),
-        &mut StepClock::new(0),
-        &mut MemTrails::new(alloc, 0, 0),
-        &OpenGate,
-    );
+    let mut scene = Scene::new(alloc);
+    scene.input = MemSource::new(script, copied(rt, alloc, reads));
+    scene.output.failing = copied(rt, alloc, writes);
+    let status = scene.run(rt, alloc, command, &OpenGate);
+    let Scene {
+        input: _,
+        output,
+        errors,
+        room: _,
+        trails: _,
+    } = scene;
     (status, output.bytes, errors.bytes)
 }
 
@@ -164,50 +144,21 @@ fn a_load_reads_nothing_and_ends_by_its_output(rt: HostRuntime) {
     }
 }
 
-/// Runs the words of a row, each behind a space, over no input: how it ends, what it writes and what
-/// it says.
-fn ran<R: Abort + Threads + Wait + Sync>(
-    rt: &R,
-    alloc: Global,
-    row: &str,
-) -> (Status, Vec<u8>, Vec<u8>) {
-    let mut words = Vec::new(alloc);
-    for word in row.split(' ').skip(1) {
-        let word = String::from_str(alloc, word).expect(rt, "there is memory");
-        words.push(word).expect(rt, "there is memory");
-    }
-    let mut input = MemSource::new(Vec::new(alloc), Vec::new(alloc));
-    let mut output = sink(alloc, Vec::new(alloc));
-    let mut errors = sink(alloc, Vec::new(alloc));
-    let status = run(
-        rt,
-        alloc,
-        words.as_slice(),
-        &mut input,
-        &mut output,
-        &mut errors,
-        &mut MemRoom::new(alloc),
-        &mut StepClock::new(0),
-        &mut MemTrails::new(alloc, 0, 0),
-        &OpenGate,
-    );
-    (status, output.bytes, errors.bytes)
-}
-
 #[test]
 fn help_is_said_before_that_the_words_are_bad(rt: HostRuntime) {
-    for row in [
-        "smart",
-        "smart -h",
-        "smart --help",
-        "smart -V",
-        "smart --version",
-        "smart help",
-        "smart help world",
-        "smart world --help",
-        "smart load --help",
+    for command in [
+        "",
+        "-h",
+        "--help",
+        "-V",
+        "--version",
+        "help",
+        "help world",
+        "world --help",
+        "load --help",
     ] {
-        let ended = ran(&rt, rt.alloc(), row);
+        let script = Vec::new(rt.alloc());
+        let ended = played(&rt, rt.alloc(), command, script, &[], &[]);
         assert_eq!(rt; ended.0, Status::Words);
         assert!(rt; ended.1.is_empty());
         assert!(rt; ended.2.len() > 100);

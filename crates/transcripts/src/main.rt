@@ -4,7 +4,7 @@
 
 ghost use Rattle.std.specs.Prelude.{◌≡◌, ◌↔◌, IsNone};
 
-use clock_gate::clock::StepClock;
+use clock_gate::clock::RealClock;
 use clock_gate::gate::OpenGate;
 use disk_model::room::MemRoom;
 use node_rooms::memory::MemTrails;
@@ -13,6 +13,7 @@ use smart_top::top::run;
 use std::alloc::Global;
 use std::io::Write;
 use std::process::ExitCode;
+use std::rt::Clock;
 use std::sync::Wait;
 use std::thread::Threads;
 use std::{fs, io};
@@ -89,7 +90,7 @@ fn status_line(alloc: Global, code: u8, said: &[u8]) -> io::Result<Vec<u8>> {
 }
 
 /// Runs the words of a case over its script.
-fn play<R: Threads + Wait + Sync>(
+fn play<R: Clock + Threads + Wait + Sync>(
     rt: &R,
     alloc: Global,
     words: &[String],
@@ -106,7 +107,7 @@ fn play<R: Threads + Wait + Sync>(
         &mut output,
         &mut errors,
         &mut MemRoom::new(alloc),
-        &mut StepClock::new(0),
+        &mut RealClock::new(rt),
         &mut MemTrails::new(alloc, 0, 0),
         &OpenGate,
     );

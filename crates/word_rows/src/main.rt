@@ -2,7 +2,7 @@
 #![tactic(auto)]
 
 use command_words::command::{Command, NoCommand, read_words};
-use command_words::node_words::NodeWords;
+use command_words::node_words::{GroupWords, NodeWords};
 use smart_base::sequence::Bytes;
 use std::alloc::{AllocError, Global};
 use std::{io, str};
@@ -34,6 +34,19 @@ fn say_node(rt: &HostRuntime, node: &NodeWords) -> io::Result<()> {
     )
 }
 
+/// Says what words of a group are.
+fn say_group(rt: &HostRuntime, run: &GroupWords) -> io::Result<()> {
+    println!(rt;
+        "the command group: group {},{}, period {}, turns {}, asks {}, directory \"{}\"",
+        run.group.members,
+        run.group.faulty,
+        run.period,
+        run.turns,
+        run.asks,
+        text_of(&run.dir)
+    )
+}
+
 fn main(rt: HostRuntime) -> io::Result<()> {
     for row in rt.lines(rt.alloc()) {
         let row = row?;
@@ -43,6 +56,7 @@ fn main(rt: HostRuntime) -> io::Result<()> {
             Ok(Command::World) => println!(rt; "the command world")?,
             Ok(Command::Load { count }) => println!(rt; "the command load {count}")?,
             Ok(Command::Node(node)) => say_node(&rt, &node)?,
+            Ok(Command::Group(run)) => say_group(&rt, &run)?,
             Ok(Command::Audit) => println!(rt; "the command audit")?,
             Err(NoCommand::Shown(text)) => println!(rt; "shown:\n{text}")?,
             Err(NoCommand::Wrong) => println!(rt; "wrong")?,

@@ -1,0 +1,16 @@
+pub mod Answered
+pub mod Assembling
+pub mod Berthing
+pub mod Chained
+pub mod Coursing
+pub mod Desking
+pub mod Finished
+pub mod Lending
+pub mod Manned
+pub mod Opening
+pub mod Played
+pub mod Ranges
+pub mod Seats
+pub mod Sinking
+pub mod Turned
+pub mod Working

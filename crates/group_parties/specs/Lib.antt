@@ -1,0 +1,14 @@
+pub mod Assembled
+pub mod Berths
+pub mod Courses
+pub mod Crews
+pub mod Gathered
+pub mod Manned
+pub mod Numbers
+pub mod Origins
+pub mod Plays
+pub mod Rooms
+pub mod Runs
+pub mod Seated
+pub mod Stations
+pub mod Unseated

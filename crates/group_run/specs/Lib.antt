@@ -1,0 +1,7 @@
+pub mod Concluded
+pub mod Ends
+pub mod Gears
+pub mod Lines
+pub mod Parties
+pub mod Rests
+pub mod Statuses
