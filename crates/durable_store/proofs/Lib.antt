@@ -1,3 +1,4 @@
+pub mod Faults
 pub mod Four
 pub mod Nexts
 pub mod Weighs

@@ -14,16 +14,16 @@ use Rattle.group_wires.specs.Wires.{all_ends, member_ends, AreDealt, AreFresh, r
 use Rattle.group_wires.specs.declared.dealing.Wires.{Wires}
 use Rattle.group_wires.specs.declared.row.Row.{Row}
 use Rattle.group_parties.specs.Assembled.{headed_of, station_of, stations_of}
-use Rattle.group_parties.specs.Berths.{AreBerths, IsBerth}
+use Rattle.group_opening.specs.Berths.{AreBerths, IsBerth}
 use Rattle.group_parties.specs.Crews.{inboxes_of, rows_of, AreFit, HasHead, HasHeads, HaveHeads, IsCrew, IsFit}
-use Rattle.group_parties.specs.Gathered.{AreFreshLanes}
-use Rattle.group_parties.specs.Runs.{client_head, member_settings}
-use Rattle.group_parties.specs.declared.berth.Berth.{Berth}
+use Rattle.group_opening.specs.Lanes.{AreFreshLanes}
+use Rattle.group_opening.specs.Runs.{client_head, member_settings}
+use Rattle.group_opening.specs.declared.berth.Berth.{Berth}
 use Rattle.group_parties.specs.declared.crew.Crew.{Crew}
 use Rattle.group_parties.specs.declared.crew.Headed.{Headed}
-use Rattle.group_parties.specs.declared.gathering.Lane.{Lane}
+use Rattle.group_opening.specs.declared.gathering.Lane.{Lane}
 use Rattle.group_parties.specs.declared.seating.Station.{Station}
-use Rattle.group_parties.specs.declared.settings.GroupSettings.{GroupSettings}
+use Rattle.group_opening.specs.declared.settings.GroupSettings.{GroupSettings}
 
 -- each party has a row
 pub rows-many : (members : ℕ) (w : Wires) → AreFresh members w → length w.rows.items ≡ members + 1

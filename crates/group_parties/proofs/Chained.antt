@@ -7,7 +7,7 @@ use Rattle.durable_store.specs.declared.store.Store.{Store}
 use Rattle.log_worker.specs.Rounds.{AllRounds}
 use Rattle.node_rules.specs.Nodes.{Node}
 use Rattle.node_played.specs.Lives.{IsTailOf}
-use Rattle.node_loops.specs.Rounds.{IsReplicaOf, RoundsOf}
+use Rattle.node_endings.specs.Rounds.{IsReplicaOf, RoundsOf}
 
 module _ {S D : Type 0} (told remembers : Type 0) (cells : D → Cells) (moment : D → ℕ) (left_since : D → ℕ → List ℕ → Type 0) (stops : List ℕ → Bool) (m : Meaning S) (opening : Node S) (restored : ℕ) where
   -- so many rounds from one store to another

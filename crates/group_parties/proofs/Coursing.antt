@@ -8,7 +8,7 @@ use Rattle.client_seat.proofs.Grown.{polls-join}
 use Rattle.trail.specs.declared.event.TrailEvent.{TrailEvent}
 use Rattle.trail.specs.declared.event.TrailEvent.TheVariants.{Polls}
 use Rattle.trail.specs.declared.opening.TrailOpening.{TrailOpening}
-use Rattle.node_endings.proofs.Faults.{rose_after}
+use Rattle.durable_store.proofs.Faults.{rose_after}
 use Rattle.group_client.specs.Amounts.{amounts, asked_in, AsksUpTo}
 use Rattle.group_client.specs.Ends.{gave_up, is_line_cut as is_cut}
 use Rattle.group_client.specs.Lines.{accepted, IsTold, IsToldFirst, IsToldWhole}

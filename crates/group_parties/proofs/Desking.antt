@@ -8,10 +8,10 @@ use Rattle.durable_store.specs.declared.disks.Disks.{Disks}
 use Rattle.durable_store.specs.declared.store.Store.{Store}
 use Rattle.member_opening.specs.Restorings.{KeepsCounts}
 use Rattle.node_endings.specs.declared.ending.LoopEnd.TheVariants.{Over}
-use Rattle.node_endings.proofs.Faults.{fell_none}
-use Rattle.node_loops.proofs.Ends.{over_failed}
+use Rattle.durable_store.proofs.Faults.{fell_none}
+use Rattle.node_endings.proofs.Ends.{over_failed}
 use Rattle.node_rules.specs.Nodes.{Node}
-use Rattle.node_run.specs.Opened.{IsAsOpened}
+use Rattle.member_opening.specs.Opened.{IsAsOpened}
 use Rattle.group_threads.specs.Desks.{IsDeskOf, IsReady}
 use Rattle.group_threads.specs.declared.desk.Desk.{Desk}
 use Rattle.group_threads.specs.declared.desk.MemberEnds.{MemberEnds}

@@ -16,10 +16,10 @@ use Rattle.durable_store.specs.declared.disks.Disks.{Disks}
 use Rattle.durable_store.specs.declared.store.Store.{Store}
 use Rattle.log_lane.specs.Lane.{lane_taken}
 use Rattle.node_rules.specs.Nodes.{Node}
-use Rattle.node_endings.proofs.Faults.{disk_rose_after, fell_after}
-use Rattle.node_loops.specs.Rounds.{RoundsOf}
-use Rattle.node_loops.proofs.Chained.{no_rounds}
-use Rattle.node_run.specs.Opened.{IsAsOpened, OpensWith}
+use Rattle.durable_store.proofs.Faults.{disk_rose_after, fell_after}
+use Rattle.node_endings.specs.Rounds.{RoundsOf}
+use Rattle.node_endings.proofs.Chained.{no_rounds}
+use Rattle.member_opening.specs.Opened.{IsAsOpened, OpensWith}
 use Rattle.group_threads.specs.Desks.{IsReady, WorkMade, IsLeft}
 use Rattle.group_threads.specs.declared.desk.Desk.{Desk}
 use Rattle.group_threads.specs.declared.desk.MemberEnds.{MemberEnds}

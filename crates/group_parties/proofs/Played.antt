@@ -4,7 +4,7 @@ use Rattle.faults.specs.Counts.{Rose}
 use Rattle.client_quorum.specs.declared.client.Client.{Client}
 use Rattle.trail.specs.declared.event.TrailEvent.{TrailEvent}
 use Rattle.trail.specs.declared.opening.TrailOpening.{TrailOpening}
-use Rattle.node_endings.proofs.Faults.{rose_after}
+use Rattle.durable_store.proofs.Faults.{rose_after}
 use Rattle.group_ends.specs.Journals.{has_end}
 use Rattle.group_client.specs.Amounts.{amounts, asked_in, AsksUpTo}
 use Rattle.group_client.specs.Lines.{accepted, IsTold, IsToldFirst}

@@ -6,7 +6,7 @@ use Rattle.std.proofs.lemmas.List.{map-append, reverse-append, reverse-reverse, 
 use Rattle.std.proofs.lemmas.Bool.{eqb-true}
 use Rattle.disk_model.specs.Cells.{Cells}
 use Rattle.durable_store.specs.declared.disks.Disks.{Disks}
-use Rattle.node_run.specs.Opened.{OpensWith}
+use Rattle.member_opening.specs.Opened.{OpensWith}
 use Rattle.group_parties.specs.Origins.{Origin}
 use Rattle.group_parties.specs.Stations.{Names, AreBegun, AreOpened, AreStations, IsStation}
 use Rattle.group_parties.specs.Unseated.{unseated_end, IsPut, IsUnseated}

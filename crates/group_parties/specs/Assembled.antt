@@ -2,9 +2,9 @@
 use Rattle.std.specs.Prelude.{List, [], ◌∷◌}
 use Rattle.group_ends.specs.declared.inbox.Inbox.{Inbox}
 use Rattle.group_wires.specs.declared.row.Row.{Row}
-use Rattle.group_parties.specs.declared.berth.Berth.{Berth}
+use Rattle.group_opening.specs.declared.berth.Berth.{Berth}
 use Rattle.group_parties.specs.declared.crew.Headed.{Headed}
-use Rattle.group_parties.specs.declared.gathering.Lane.{Lane}
+use Rattle.group_opening.specs.declared.gathering.Lane.{Lane}
 use Rattle.group_parties.specs.declared.seating.Station.{Station}
 
 module _ {S D : Type 0} where

@@ -14,7 +14,7 @@ use Rattle.member_opening.specs.Headings.{head_by}
 use Rattle.member_opening.specs.Restorings.{node_by, parts_in, store_fault, KeepsCounts}
 use Rattle.node_played.specs.Lives.{nobody}
 use Rattle.node_rooms.specs.Texts.{IsEmpty}
-use Rattle.node_run.specs.Opened.{IsOpened, OpensWith}
+use Rattle.member_opening.specs.Opened.{IsOpened, OpensWith}
 use Rattle.trail.specs.Trails.{trail_text}
 use Rattle.trail.specs.declared.opening.TrailOpening.{TrailOpening}
 use Rattle.group_ends.specs.Journals.{no_head}
@@ -22,13 +22,13 @@ use Rattle.group_ends.specs.Ports.{ends, port_links, inbox_links}
 use Rattle.group_ends.specs.declared.inbox.Inbox.{Inbox}
 use Rattle.group_wires.specs.Wires.{receivers, AreDealt}
 use Rattle.group_wires.specs.declared.row.Row.{Row}
-use Rattle.group_parties.specs.Runs.{member_settings, client_head}
+use Rattle.group_opening.specs.Runs.{member_settings, client_head}
 use Rattle.group_parties.specs.Stations.{Names}
-use Rattle.group_parties.specs.declared.berth.Berth.{Berth}
+use Rattle.group_opening.specs.declared.berth.Berth.{Berth}
 use Rattle.group_parties.specs.declared.crew.Crew.{Crew}
 use Rattle.group_parties.specs.declared.crew.Headed.{Headed}
 use Rattle.group_parties.specs.declared.seating.Station.{Station}
-use Rattle.group_parties.specs.declared.settings.GroupSettings.{GroupSettings}
+use Rattle.group_opening.specs.declared.settings.GroupSettings.{GroupSettings}
 
 -- what a sink told before the head of its trail, by what it tells now: no bytes, if it tells the head
 unfoldable pub begun_of : TrailOpening → List (List ℕ) → Option (List ℕ) → Option (List ℕ)

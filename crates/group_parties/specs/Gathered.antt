@@ -1,21 +1,12 @@
 -- What is gathered for a group before it runs.
-use Rattle.std.specs.Prelude.{◌≡◌, ◌≤◌, ℕ, suc, List, [], ◌∷◌, Option, IsSome}
+use Rattle.std.specs.Prelude.{◌≡◌, ℕ, suc, List, [], ◌∷◌, Option, IsSome}
 use Rattle.audit_rules.specs.declared.recorded.Recorded.{Recorded}
 use Rattle.disk_model.specs.Rooms.{Address, address}
 use Rattle.member_opening.specs.Devices.{AreHeld}
-use Rattle.log_lane.specs.Lane.{in_lane, out_lane, lane_put, lane_room, lane_raised, lane_taken}
 use Rattle.trail.specs.declared.opening.TrailOpening.{TrailOpening}
 use Rattle.group_parties.specs.declared.crew.Headed.{Headed}
 use Rattle.group_parties.specs.declared.ending.Lived.{Lived}
 use Rattle.group_parties.specs.declared.ending.MemberEnd.{MemberEnd}
-use Rattle.group_parties.specs.declared.gathering.Lane.{Lane}
-
--- a lane that carries nothing
-pub record AreFreshLanes (l : Lane) : Type 0 where
-  pub lane : in_lane l.inward ≡ out_lane l.outward
-  pub none_put : lane_put l.inward ≡ []
-  pub room : 1 ≤ lane_room l.inward
-  pub none_taken : (lane_taken l.outward ≡ []) × (lane_raised l.outward ≡ 0)
 
 -- the trail of a party, with what begins it
 abbrev pub recorded_of : TrailOpening → List (List ℕ) → Lived → Recorded

@@ -1,14 +1,11 @@
 pub mod Assembled
-pub mod Berths
 pub mod Courses
 pub mod Crews
 pub mod Gathered
 pub mod Manned
-pub mod Numbers
 pub mod Origins
 pub mod Plays
-pub mod Rooms
-pub mod Runs
+pub mod Rests
 pub mod Seated
 pub mod Stations
 pub mod Unseated

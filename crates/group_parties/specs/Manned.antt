@@ -13,8 +13,8 @@ use Rattle.log_lane.specs.Lane.{lane_taken}
 use Rattle.node_rules.specs.Nodes.{Node}
 use Rattle.node_rules.specs.declared.node.Target.{Target}
 use Rattle.node_endings.specs.Loops.{FailsByDisk}
-use Rattle.node_loops.specs.Rounds.{RoundsOf}
-use Rattle.node_run.specs.Opened.{OpensWith}
+pub use Rattle.node_endings.specs.Rounds.{RoundsOf}
+use Rattle.member_opening.specs.Opened.{OpensWith}
 use Rattle.node_played.specs.Lives.{made_texts}
 use Rattle.queue_ends.specs.Rule.{IsFront}
 use Rattle.smart_base.specs.Lists.{Each}

@@ -9,7 +9,7 @@ use Rattle.log_lane.specs.Lane.{in_lane, out_lane, lane_put, lane_room, lane_rai
 use Rattle.member_opening.specs.Restorings.{KeepsCounts}
 use Rattle.node_rules.specs.Nodes.{Node}
 use Rattle.node_rules.specs.declared.node.Target.{Target}
-use Rattle.node_run.specs.Opened.{IsOpened, OpensWith}
+use Rattle.member_opening.specs.Opened.{IsOpened, OpensWith}
 use Rattle.trail.specs.Trails.{trail_text}
 use Rattle.trail.specs.declared.opening.TrailOpening.{TrailOpening}
 use Rattle.group_ends.specs.Ports.{ends, port_links, inbox_links, takings, AreApart}

@@ -1,14 +1,14 @@
 //! How the client of a group gets its seat.
 ghost use Rattle.std.specs.Prelude.{◌≡◌, ◌≤◌, [], false, None, IfOk, IfErr};
 ghost use Rattle.client_quorum.specs.Clients.{fresh};
-ghost use Rattle.group_parties.specs.Runs.{client_head};
+ghost use Rattle.group_opening.specs.Runs.{client_head};
 ghost use Rattle.group_parties.specs.Stations.{AreLinksOf, IsSinkOf};
 
-use crate::settings::GroupSettings;
 use client_quorum::client::Client;
 use client_seat::seat::{CLIENT, ClientSeat};
 use group_ends::inbox::Inbox;
 use group_ends::journal::Journal;
+use group_opening::settings::GroupSettings;
 use group_wires::row::Row;
 use node_course::group_life::GroupLife;
 use smart_base::duplicate::Duplicate;

@@ -112,7 +112,7 @@ struct PlayedDesk<D: Disk> {
 
 /// One round of the worker of checkpoints, as how a loop would have ended. `true`: it handed a snapshot
 /// over.
-#[tactic(auto, using(node_loops::proofs::Ends::last_up))]
+#[tactic(auto, using(node_endings::proofs::Ends::last_up))]
 fn check_once<S: Service, P: GroupLife<S>, M: Numbered, O: Sink, G: Gate, R: Wait>(
     node: &mut MemberCell<'_, S, P, M, O, G, R>,
     checker: &mut CheckWorker,

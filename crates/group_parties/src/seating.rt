@@ -6,7 +6,7 @@ ghost use Rattle.std.specs.Io.KnownBytes.{Appends};
 ghost use Rattle.log_lane.specs.Lane.{in_lane, out_lane, lane_put, lane_room, lane_raised, lane_taken};
 ghost use Rattle.trail.specs.Trails.{trail_text};
 ghost use Rattle.member_opening.specs.Restorings.{KeepsCounts};
-ghost use Rattle.node_run.specs.Opened.{IsAsOpened, IsOpened, OpensWith};
+ghost use Rattle.member_opening.specs.Opened.{IsAsOpened, IsOpened, OpensWith};
 ghost use Rattle.group_parties.specs.Origins.{Origin};
 ghost use Rattle.group_threads.specs.Desks.{IsReady};
 ghost use Rattle.group_parties.specs.Manned.{HasDesk, HasWorked};

@@ -14,8 +14,8 @@ use Rattle.member_opening.specs.declared.settings.Settings.{Settings}
 use Rattle.audit_rules.specs.Audits.{CanBegin}
 use Rattle.audit_laws.specs.Heads.{trail_by}
 use Rattle.audit_laws.proofs.Headed.{damage-is}
-use Rattle.group_parties.specs.Runs.{member_settings}
-use Rattle.group_parties.specs.declared.settings.GroupSettings.{GroupSettings}
+use Rattle.group_opening.specs.Runs.{member_settings}
+use Rattle.group_opening.specs.declared.settings.GroupSettings.{GroupSettings}
 
 no-damage : (damage : Option ℕ) (other : Bool) → fault_with damage other ≡ None → damage ≡ None
 no-damage None other is = refl

@@ -7,15 +7,16 @@ use Rattle.durable_store.specs.Disks.{DiskRose}
 use Rattle.durable_store.specs.declared.disks.Disks.{Disks}
 use Rattle.durable_store.specs.declared.store.Store.{Store}
 use Rattle.member_opening.specs.Devices.{AreHeld}
-use Rattle.node_endings.proofs.Faults.{rose_after}
+use Rattle.durable_store.proofs.Faults.{rose_after}
 use Rattle.smart_service.specs.Services.{Meaning}
 use Rattle.group_client.specs.Loops.{Output}
 use Rattle.group_parties.specs.Gathered.{AreTaken}
-use Rattle.group_run.specs.Rests.{WasRun}
-use Rattle.group_run.specs.declared.course.Rest.{Rest}
+use Rattle.group_parties.specs.Rests.{WasRun}
+use Rattle.group_parties.specs.declared.course.Rest.{Rest}
 use Rattle.group_parties.specs.declared.ending.MemberEnd.{MemberEnd}
-use Rattle.group_parties.specs.declared.settings.GroupSettings.{GroupSettings}
-use Rattle.group_run.proofs.Returned.{failed-at, held-some, many-ended, some-of, taken-by, worn-at}
+use Rattle.group_opening.specs.declared.settings.GroupSettings.{GroupSettings}
+use Rattle.group_parties.proofs.Stationed.{some-of}
+use Rattle.group_run.proofs.Returned.{failed-at, held-some, many-ended, taken-by, worn-at}
 
 -- members that are as they were but for what they have lived
 module _ {D O : Type 0} where

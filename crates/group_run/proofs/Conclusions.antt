@@ -24,8 +24,8 @@ use Rattle.group_parties.specs.Courses.{is_cut_off}
 use Rattle.group_run.specs.Ends.{EndsBy, IsAccepted, IsGivenUp}
 use Rattle.group_run.specs.Lines.{coherent_line}
 use Rattle.group_run.specs.Parties.{trails_of, GroupOver}
-use Rattle.group_run.specs.Rests.{HasCourse}
-use Rattle.group_parties.specs.Runs.{GroupRun, client_head}
+use Rattle.group_parties.specs.Rests.{HasCourse}
+use Rattle.group_opening.specs.Runs.{GroupRun, client_head}
 use Rattle.group_run.specs.Statuses.{audited_status, failed_status, fails, line_status, quiet_status, tells_last}
 use Rattle.group_parties.specs.declared.ending.Lived.{Lived}
 use Rattle.group_parties.specs.declared.running.CourseEnd.{CourseEnd}

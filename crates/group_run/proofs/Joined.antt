@@ -17,7 +17,6 @@ use Rattle.member_opening.specs.Restorings.{node_by, parts_in}
 use Rattle.node_played.specs.Lives.{made_texts}
 use Rattle.queue_ends.specs.Rule.{IsFront}
 use Rattle.store_laws.specs.Stops.{is_installed}
-use Rattle.node_loops.specs.Rounds.{RoundsOf}
 use Rattle.trail.specs.Trails.{trail_text}
 use Rattle.trail.specs.declared.event.TrailEvent.{TrailEvent}
 use Rattle.trail.specs.declared.opening.TrailOpening.{TrailOpening}
@@ -33,10 +32,10 @@ use Rattle.group_wires.specs.Wires.{all_ends, all_links, all_takings, column, me
 use Rattle.group_wires.specs.declared.row.Row.{Row}
 use Rattle.group_parties.specs.Crews.{begun_of, inboxes_of, rows_of, AreFit, HasHead, IsCrew, IsFit}
 use Rattle.group_parties.specs.Gathered.{recorded_of, trails_in}
-use Rattle.group_parties.specs.Manned.{IsLeftOver}
+use Rattle.group_parties.specs.Manned.{IsLeftOver, RoundsOf}
 use Rattle.group_run.specs.Parties.{end_of, receivers_of, AreOver, CameFrom, ClientOver, GroupOver, IsKept, MemberOver}
-use Rattle.group_run.specs.Rests.{AreEnded, HasRun, IsEnded}
-use Rattle.group_parties.specs.Runs.{GroupRun, client_head, member_settings}
+use Rattle.group_parties.specs.Rests.{AreEnded, HasRun, IsEnded}
+use Rattle.group_opening.specs.Runs.{GroupRun, client_head, member_settings}
 use Rattle.group_parties.specs.Seated.{IsClientLeft}
 use Rattle.group_parties.specs.declared.crew.Crew.{Crew}
 use Rattle.group_parties.specs.declared.crew.Headed.{Headed}
@@ -46,7 +45,7 @@ use Rattle.group_parties.specs.declared.seating.Station.{Station}
 use Rattle.group_client.specs.Amounts.{AsksUpTo}
 use Rattle.group_wires.proofs.Columns.{each-push}
 use Rattle.group_run.proofs.Coming.{came-from, ends-length, rows-lead}
-use Rattle.group_run.proofs.Stationed.{Reads, each-same, head-all, head-front, reads-by}
+use Rattle.group_parties.proofs.Stationed.{Reads, each-same, head-all, head-front, reads-by}
 
 -- ---- lists
 

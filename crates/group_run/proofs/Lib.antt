@@ -3,15 +3,11 @@ pub mod Beginning
 pub mod Causing
 pub mod Coming
 pub mod Conclusions
-pub mod Ended
 pub mod Failing
 pub mod Joined
-pub mod Muted
-pub mod Named
 pub mod Overs
 pub mod PutBack
 pub mod Returned
-pub mod Stationed
 pub mod Stored
 pub mod Taking
 pub mod Turnings

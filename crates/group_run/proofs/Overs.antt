@@ -33,11 +33,11 @@ use Rattle.group_run.specs.Ends.{accepted_in, GroupEnd, HasLived, HasLost, LostB
 use Rattle.group_parties.specs.Gathered.{recorded_of, trails_in}
 use Rattle.group_run.specs.Lines.{group_line}
 use Rattle.group_run.specs.Parties.{accepted_by, trails_of, ClientOver, GroupOver}
-use Rattle.group_run.specs.Rests.{HasCourse, HasRun}
-use Rattle.group_parties.specs.Runs.{GroupRun, client_head, member_settings}
+use Rattle.group_parties.specs.Rests.{HasCourse, HasRun}
+use Rattle.group_opening.specs.Runs.{GroupRun, client_head, member_settings}
 use Rattle.group_parties.specs.Seated.{IsClientLeft}
 use Rattle.group_run.specs.Statuses.{failed_status}
-use Rattle.group_run.specs.declared.course.Rest.{Rest}
+use Rattle.group_parties.specs.declared.course.Rest.{Rest}
 use Rattle.group_parties.specs.declared.crew.Crew.{Crew}
 use Rattle.group_parties.specs.declared.crew.Headed.{Headed}
 use Rattle.group_parties.specs.declared.ending.Lived.{Lived}

@@ -9,11 +9,11 @@ use Rattle.disk_model.specs.Rooms.{Address, address, KeepsOthers}
 use Rattle.durable_store.specs.Disks.{DiskRose, cells_of}
 use Rattle.durable_store.specs.declared.disks.Disks.{Disks}
 use Rattle.member_opening.specs.Devices.{AreFree, AreHeld, IsHeld, KeepsBeside, devices_at}
-use Rattle.node_run.specs.Members.{Room}
+use Rattle.member_opening.specs.Rooms.{Room}
 use Rattle.group_parties.specs.Gathered.{AreTaken}
-use Rattle.group_parties.specs.Rooms.{IsReturned}
+use Rattle.group_opening.specs.Rooms.{IsReturned}
 use Rattle.group_parties.specs.declared.ending.MemberEnd.{MemberEnd}
-use Rattle.group_parties.proofs.Ranges.{change, returned-ahead, returned-devices, returned-none, returned-sink}
+use Rattle.group_opening.proofs.Ranges.{change, returned-ahead, returned-devices, returned-none, returned-sink}
 
 -- ---- counts of failures
 

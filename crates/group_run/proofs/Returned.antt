@@ -7,23 +7,18 @@ use Rattle.durable_store.specs.Disks.{DiskRose, NoneFell, cells_of}
 use Rattle.durable_store.specs.declared.disks.Disks.{Disks}
 use Rattle.durable_store.specs.declared.store.Store.{Store}
 use Rattle.member_opening.specs.Devices.{AreHeld, IsHeld, devices_at}
-use Rattle.node_endings.proofs.Faults.{rose_after}
+use Rattle.durable_store.proofs.Faults.{rose_after}
 use Rattle.smart_service.specs.Services.{Meaning}
 use Rattle.store_laws.specs.Restored.{Images}
-use Rattle.group_parties.specs.Berths.{AllHeld}
+use Rattle.group_opening.specs.Berths.{AllHeld}
 use Rattle.group_parties.specs.Crews.{AreFit}
 use Rattle.group_parties.specs.Gathered.{AreTaken}
-use Rattle.group_run.specs.Rests.{AreEnded, AreOut}
-use Rattle.group_parties.specs.declared.berth.Berth.{Berth}
+use Rattle.group_parties.specs.Rests.{AreEnded, AreOut}
+use Rattle.group_opening.specs.declared.berth.Berth.{Berth}
 use Rattle.group_parties.specs.declared.crew.Headed.{Headed}
 use Rattle.group_parties.specs.declared.ending.MemberEnd.{MemberEnd}
 use Rattle.group_parties.specs.declared.seating.Station.{Station}
-use Rattle.group_parties.specs.declared.settings.GroupSettings.{GroupSettings}
-
--- one of several values, where there are some
-pub some-of : {A : Type 0} (xs : List A) (i : ℕ) → i < length xs → A
-some-of [] i within = absurd (omega (arith, within))
-some-of (x ∷ xs) i within = x
+use Rattle.group_opening.specs.declared.settings.GroupSettings.{GroupSettings}
 
 held-later : (taken : Option ℕ) (old new : ℕ) → IsHeld taken old → old ≤ new → IsHeld taken new
 held-later taken old new held later = record { before = held.before; is = held.is; later = omega (arith, held.later, later) }

@@ -3,13 +3,13 @@ use Rattle.std.proofs.Common.{◌≡◌, ℕ, zero, suc, ◌+◌, ◌-◌, ◌<�
 use Rattle.durable_store.specs.Disks.{cells_of}
 use Rattle.member_opening.specs.Devices.{devices_at}
 use Rattle.member_opening.specs.Restorings.{node_by, parts_in}
-use Rattle.node_loops.specs.Rounds.{RoundsOf}
+use Rattle.group_parties.specs.Manned.{RoundsOf}
 use Rattle.node_rules.specs.Nodes.{Node}
 use Rattle.store_laws.specs.Stops.{is_installed}
 use Rattle.group_parties.specs.Crews.{AreFit, IsCrew, IsFit}
 use Rattle.group_run.specs.Parties.{StoreOver}
-use Rattle.group_run.specs.Rests.{AreEnded, IsEnded}
-use Rattle.group_parties.specs.Runs.{GroupRun, member_settings}
+use Rattle.group_parties.specs.Rests.{AreEnded, IsEnded}
+use Rattle.group_opening.specs.Runs.{GroupRun, member_settings}
 use Rattle.group_parties.specs.declared.crew.Crew.{Crew}
 use Rattle.group_parties.specs.declared.crew.Headed.{Headed}
 use Rattle.group_parties.specs.declared.ending.MemberEnd.{MemberEnd}

@@ -10,20 +10,20 @@ use Rattle.trail.specs.declared.opening.TrailOpening.{TrailOpening}
 use Rattle.group_client.specs.declared.reply_line.LineFault.{LineFault}
 use Rattle.group_client.specs.declared.reply_line.LineFault.TheVariants as lines
 use Rattle.group_client.proofs.Told.{keeps-none}
-use Rattle.node_run.specs.Members.{IsStill}
-use Rattle.group_parties.specs.Berths.{IsHeaded}
+use Rattle.member_opening.specs.Rooms.{IsStill}
+use Rattle.group_opening.specs.Berths.{IsHeaded}
 use Rattle.group_parties.specs.Crews.{HasHead, HasHeads, HaveHeads}
 use Rattle.group_run.specs.Ends.{GroupEnd, HasNotLived, IsRefused, WroteLine}
 use Rattle.group_run.specs.Lines.{group_line}
-use Rattle.group_parties.specs.Runs.{GroupRun}
+use Rattle.group_opening.specs.Runs.{GroupRun}
 use Rattle.group_run.specs.Statuses.{line_status, opening_status, trail_status}
-use Rattle.group_parties.specs.declared.berth.Berth.{Berth}
-use Rattle.group_parties.specs.declared.berth.OpeningEnd.{OpeningEnd}
-use Rattle.group_parties.specs.declared.berth.OpeningEnd.TheVariants as openings
-use Rattle.group_parties.specs.declared.settings.GroupSettings.{GroupSettings}
+use Rattle.group_opening.specs.declared.berth.Berth.{Berth}
+use Rattle.group_opening.specs.declared.berth.OpeningEnd.{OpeningEnd}
+use Rattle.group_opening.specs.declared.berth.OpeningEnd.TheVariants as openings
+use Rattle.group_opening.specs.declared.settings.GroupSettings.{GroupSettings}
 use Rattle.group_run.specs.declared.status.GroupStatus.{GroupStatus}
 use Rattle.group_run.specs.declared.status.GroupStatus.TheVariants as ends
-use Rattle.group_run.proofs.Returned.{some-of}
+use Rattle.group_parties.proofs.Stationed.{some-of}
 
 module _ {S : Type 0} (r : GroupRun S) where
   -- ---- nothing was written, or some of the first line

@@ -14,7 +14,7 @@ use Rattle.group_client.specs.declared.asking.ClientFault.TheVariants as faults
 use Rattle.group_parties.specs.Courses.{is_cut_off, is_line_cut}
 use Rattle.group_run.specs.Ends.{LostBy, WroteBy, WroteFirst, WroteLines, WroteOrWants, WroteSome}
 use Rattle.group_run.specs.Lines.{all_lines, coherent_line, group_line, lines_of}
-use Rattle.group_parties.specs.Runs.{GroupRun}
+use Rattle.group_opening.specs.Runs.{GroupRun}
 use Rattle.group_run.specs.Statuses.{failed_status, tells_last}
 use Rattle.group_parties.specs.declared.running.CourseEnd.{CourseEnd}
 use Rattle.group_parties.specs.declared.running.CourseEnd.TheVariants as courses

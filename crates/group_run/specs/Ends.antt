@@ -12,11 +12,11 @@ use Rattle.audit_rules.specs.declared.recorded.Recorded.{Recorded}
 use Rattle.trail.specs.declared.event.TrailEvent.{TrailEvent}
 use Rattle.group_client.specs.Lines.{accepted}
 use Rattle.member_opening.specs.Devices.{images_at}
-use Rattle.node_run.specs.Members.{IsStill}
-use Rattle.group_parties.specs.Berths.{IsLowest}
+use Rattle.member_opening.specs.Rooms.{IsStill}
+use Rattle.group_opening.specs.Berths.{IsLowest}
 use Rattle.group_run.specs.Lines.{lines_of, all_lines}
 use Rattle.group_run.specs.Parties.{ClientOver, GroupOver, StoreOver, trails_of, accepted_by}
-use Rattle.group_parties.specs.Runs.{GroupRun}
+use Rattle.group_opening.specs.Runs.{GroupRun}
 use Rattle.group_run.specs.declared.status.GroupStatus.{GroupStatus}
 use Rattle.group_run.specs.declared.status.GroupStatus.TheVariants as ends
 

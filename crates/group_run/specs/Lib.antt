@@ -3,5 +3,4 @@ pub mod Ends
 pub mod Gears
 pub mod Lines
 pub mod Parties
-pub mod Rests
 pub mod Statuses

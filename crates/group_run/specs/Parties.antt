@@ -20,8 +20,8 @@ use Rattle.node_played.specs.Lives.{made_texts}
 use Rattle.node_rooms.specs.Texts.{IsEmpty}
 use Rattle.node_rules.specs.declared.node.Target.{Target}
 use Rattle.node_rules.specs.declared.node.Target.TheVariants.{Node, Client}
-use Rattle.node_run.specs.Opened.{OpensWith}
-use Rattle.node_loops.specs.Rounds.{RoundsOf}
+use Rattle.member_opening.specs.Opened.{OpensWith}
+use Rattle.group_parties.specs.Manned.{RoundsOf}
 use Rattle.queue_ends.specs.Rule.{IsFront}
 use Rattle.smart_base.specs.Lists.{Each}
 use Rattle.store_laws.specs.Restored.{restores}
@@ -30,7 +30,7 @@ use Rattle.store_laws.specs.declared.job.Kept.{Kept}
 use Rattle.trail.specs.Trails.{trail_text}
 use Rattle.trail_rules.specs.Replays.{core_steps, replay, arrivals, needed, Released}
 use Rattle.audit_rules.specs.declared.recorded.Recorded.{Recorded}
-use Rattle.group_parties.specs.Runs.{GroupRun, member_settings, client_head}
+use Rattle.group_opening.specs.Runs.{GroupRun, member_settings, client_head}
 
 -- the end of links at which a party polls, by its number
 abbrev pub end_of : ℕ → Target

@@ -3,14 +3,12 @@ use Rattle.std.specs.Prelude.{ℕ, Bool, true, false, List, [], ◌∷◌, if◌
 use Rattle.audit_rules.specs.declared.recorded.Difference.{Difference}
 use Rattle.audit_rules.specs.declared.recorded.Verdict.{Verdict}
 use Rattle.audit_rules.specs.declared.recorded.Verdict.TheVariants as verdicts
-use Rattle.node_endings.specs.declared.ending.LoopEnd.{LoopEnd}
-use Rattle.node_endings.specs.declared.ending.LoopEnd.TheVariants as loops
 use Rattle.faults.specs.declared.Fault.{Fault}
 use Rattle.faults.specs.declared.Fault.TheVariants as faults
 use Rattle.group_client.specs.declared.reply_line.LineFault.{LineFault}
 use Rattle.group_client.specs.declared.reply_line.LineFault.TheVariants as lines
-use Rattle.group_parties.specs.declared.berth.OpeningEnd.{OpeningEnd}
-use Rattle.group_parties.specs.declared.berth.OpeningEnd.TheVariants as openings
+use Rattle.group_opening.specs.declared.berth.OpeningEnd.{OpeningEnd}
+use Rattle.group_opening.specs.declared.berth.OpeningEnd.TheVariants as openings
 use Rattle.group_run.specs.declared.status.Failures.{Failures}
 use Rattle.group_run.specs.declared.status.GroupStatus.{GroupStatus}
 use Rattle.group_run.specs.declared.status.GroupStatus.TheVariants as ends

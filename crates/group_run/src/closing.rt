@@ -5,7 +5,7 @@ ghost use Rattle.faults.specs.Counts.{Rose};
 ghost use Rattle.disk_model.specs.Rooms.{address};
 ghost use Rattle.member_opening.specs.Devices.{AreHeld, devices_at};
 ghost use Rattle.group_parties.specs.Gathered.{AreTaken};
-ghost use Rattle.group_parties.specs.Rooms.{IsReturned};
+ghost use Rattle.group_opening.specs.Rooms.{IsReturned};
 
 use crate::status::Failures;
 use disk_model::disk::Disk;

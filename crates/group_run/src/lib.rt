@@ -4,7 +4,6 @@
 pub mod clocks;
 pub mod closing;
 pub mod concluding;
-pub mod course;
 pub mod judging;
 pub mod lines;
 pub mod parties;

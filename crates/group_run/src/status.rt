@@ -5,7 +5,7 @@ ghost use Rattle.group_run.specs.Statuses.{audited_status, failed_status, line_s
 use audit_rules::recorded::{Difference, Verdict};
 use faults::Fault;
 use group_client::reply_line::LineFault;
-use group_parties::berth::OpeningEnd;
+use group_opening::berth::OpeningEnd;
 
 /// How the run of a group ended. Of several ends it is the first of this list, but that `Ok` is the end of a
 /// run with no other.

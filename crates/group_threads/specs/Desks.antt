@@ -12,7 +12,7 @@ use Rattle.node_rules.specs.Nodes.{Node}
 use Rattle.node_endings.specs.Loops.{FailsByDisk, gave_up}
 use Rattle.node_endings.specs.declared.ending.LoopEnd.{LoopEnd}
 use Rattle.node_endings.specs.declared.ending.LoopEnd.TheVariants.{Failed}
-use Rattle.node_loops.specs.Rounds.{RoundsOf}
+use Rattle.node_endings.specs.Rounds.{RoundsOf}
 use Rattle.group_threads.specs.declared.desk.Desk.{Desk}
 use Rattle.group_threads.specs.declared.desk.MemberEnds.{MemberEnds}
 

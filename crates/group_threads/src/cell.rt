@@ -1,6 +1,6 @@
 //! The seat of a member under its lock, as the workers and the loops see it.
 ghost use Rattle.std.specs.Prelude.{◌≡◌, ◌<◌, ◌^◌, length, IfOk, IfSome, Some};
-ghost use Rattle.node_loops.specs.Rounds.{IsReplicaOf};
+ghost use Rattle.node_endings.specs.Rounds.{IsReplicaOf};
 ghost use Rattle.node_played.specs.Lives.{IsTailOf, IsWantedOf};
 ghost use Rattle.store_plan.specs.Fit.{AreEntries};
 
@@ -168,7 +168,7 @@ impl<'a, S: Service, P: GroupLife<S>, M: Numbered, O: Sink, G: Gate, R: Wait> Co
     for MemberCell<'a, S, P, M, O, G, R> {
     ghost use Rattle.std.specs.Prelude.{[], None};
     ghost use Rattle.node_played.specs.Lives.{IsTailOf};
-    ghost use Rattle.node_loops.specs.Rounds.{IsReplicaOf};
+    ghost use Rattle.node_endings.specs.Rounds.{IsReplicaOf};
 
     ghost alone = { ⊥ };
 

@@ -7,7 +7,6 @@ ghost use Rattle.group_threads.specs.Desks.{MayWork, LogMade};
 
 use crate::bearer::{MemberOf, Numbered};
 use crate::cell::MemberCell;
-use crate::steps::both;
 use check_worker::worker::CheckWorker;
 use clock_gate::clock::Clock;
 use clock_gate::gate::Gate;
@@ -48,18 +47,8 @@ pub fn deliver_loop<S: Service, P: GroupLife<S>, M: Numbered, O: Sink, K: Clock,
         last: clock.lock(rt).now(),
     };
     for _ in rt.forever() {
-        if node.is_over() {
+        if !node.step_on(&mut pulse, clock) {
             return LoopEnd::Over;
-        }
-        let first = node.advance();
-        let next = node.listen(&mut pulse, clock);
-        match both(first, next) {
-            Turn::Over => {
-                node.end_all();
-                return LoopEnd::Over;
-            }
-            Turn::Done => {}
-            Turn::NoRoom | Turn::Nothing => thread::yield_now(),
         }
     }
     unreachable!()

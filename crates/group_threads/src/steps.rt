@@ -24,6 +24,7 @@ use smart_io::stream::Sink;
 use smart_service::service::Service;
 use smart_statements::entry::NodeEvent;
 use std::sync::{Mutex, Wait};
+use std::thread;
 
 /// The place of the batch that a step delivered, if it delivered one.
 fn place_delivered(fired: &[Fired]) -> Option<u64>
@@ -85,7 +86,7 @@ pub fn deliver_next<S: Service, P: GroupLife<S>, O: Sink, R: Wait>(
 }
 
 /// What became of two turns, the one after the other.
-pub(crate) fn both(first: Turn, second: Turn) -> Turn {
+fn both(first: Turn, second: Turn) -> Turn {
     if first == Turn::Over || second == Turn::Over {
         return Turn::Over;
     }
@@ -145,17 +146,37 @@ impl<'a, S: Service, P: GroupLife<S>, M: Numbered, O: Sink, G: Gate, R: Wait> Me
     }
 
     /// Plays what comes from within: what the lane tells, and the batch that waits.
-    pub(crate) fn advance(&self) -> Turn {
+    fn advance(&self) -> Turn {
         let told = self.catch_up();
         both(told, self.deliver())
     }
 
     /// Plays what comes from without: a tick that is due, and then the next arrival. Says what became of
     /// the arrival, unless the tick was not played.
-    pub(crate) fn listen<K: Clock>(&self, pulse: &mut Pulse, clock: &Mutex<K>) -> Turn {
+    fn listen<K: Clock>(&self, pulse: &mut Pulse, clock: &Mutex<K>) -> Turn {
         match self.tick(pulse, clock) {
             Turn::Done => self.take(),
             other => other,
+        }
+    }
+
+    /// Plays what comes from within and from without. Says whether the core goes on.
+    pub(crate) fn step_on<K: Clock>(&self, pulse: &mut Pulse, clock: &Mutex<K>) -> bool {
+        if self.is_over() {
+            return false;
+        }
+        let first = self.advance();
+        let next = self.listen(pulse, clock);
+        match both(first, next) {
+            Turn::Over => {
+                self.end_all();
+                false
+            }
+            Turn::Done => true,
+            Turn::NoRoom | Turn::Nothing => {
+                thread::yield_now();
+                true
+            }
         }
     }
 }

@@ -1,3 +1,4 @@
 mod Counted
 mod Headed
 mod Rising
+pub mod Held

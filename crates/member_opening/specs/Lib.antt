@@ -1,3 +1,5 @@
 pub mod Devices
 pub mod Headings
+pub mod Opened
 pub mod Restorings
+pub mod Rooms

@@ -1,2 +1,3 @@
-pub mod Faults
+pub mod Chained
+pub mod Ends
 pub mod Joined

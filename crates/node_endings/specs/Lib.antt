@@ -1,3 +1,4 @@
 pub mod Delivered
 pub mod Loops
+pub mod Rounds
 pub mod Settled

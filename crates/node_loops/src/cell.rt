@@ -1,7 +1,7 @@
 //! The seat of a node under its lock, as the workers and the loops see it.
 ghost use Rattle.std.specs.Prelude.{◌<◌, ◌^◌, length, IfOk, IfSome};
 ghost use Rattle.node_played.specs.Lives.{IsWantedOf};
-ghost use Rattle.node_loops.specs.Rounds.{IsReplicaOf};
+ghost use Rattle.node_endings.specs.Rounds.{IsReplicaOf};
 
 use clock_gate::gate::{Gate, Point};
 use durable_store::cell::CoreCell;
@@ -121,7 +121,7 @@ impl<'a, S: Service, P: Place<S>, O: Sink, G: Gate, R: Wait> CoreCell
     for CellOf<'a, S, P, O, G, R> {
     ghost use Rattle.std.specs.Prelude.{[], None};
     ghost use Rattle.node_played.specs.Lives.{IsTailOf};
-    ghost use Rattle.node_loops.specs.Rounds.{IsReplicaOf};
+    ghost use Rattle.node_endings.specs.Rounds.{IsReplicaOf};
 
     ghost alone = { ⊥ };
 

@@ -11,7 +11,7 @@ ghost use Rattle.queue_ends.specs.Rule.{IsFront};
 ghost use Rattle.node_ends.specs.Intakes.{Reads, IsDone};
 ghost use Rattle.node_ends.specs.Outlets.{Writes};
 ghost use Rattle.node_endings.specs.Loops.{gave_up, loses, FailsByDisk, EndsByForm};
-ghost use Rattle.node_loops.specs.Rounds.{RoundsOf};
+ghost use Rattle.node_endings.specs.Rounds.{RoundsOf};
 
 use crate::cell::CellOf;
 use crate::steps::both;
@@ -226,7 +226,7 @@ pub fn log_loop<S: Service, P: Place<S>, O: Sink, D: Disk, E: Stops, H: Home, G:
 
 /// Makes a round of the worker of checkpoints, if a later snapshot is wanted than the last one. A round
 /// copies the snapshot, so it is made for a later one alone. Says whether there was memory for it.
-#[tactic(auto, using(crate::proofs::Ends::last_up))]
+#[tactic(auto, using(node_endings::proofs::Ends::last_up))]
 fn check_once<S: Service, P: Place<S>, O: Sink, G: Gate, R: Wait>(
     node: &mut CellOf<'_, S, P, O, G, R>,
     checker: &mut CheckWorker,

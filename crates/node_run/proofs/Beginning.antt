@@ -14,7 +14,7 @@ use Rattle.trail_rules.specs.Replays.{core_steps, needed, replay}
 use Rattle.node_seat.specs.Seats.{HasWrittenFirst}
 use Rattle.node_seat.proofs.Fronts.{wrote-all, wrote-front}
 use Rattle.node_run.specs.Lives.{Life, LifeEnd}
-use Rattle.node_run.specs.Opened.{IsAsOpened}
+use Rattle.member_opening.specs.Opened.{IsAsOpened}
 use Rattle.node_run.specs.Rounds.{IsLeftBy, LifeFrom}
 use Rattle.node_run.specs.Statuses.{trail_status}
 use Rattle.node_run.specs.declared.status.NodeStatus.{NodeStatus}

@@ -9,7 +9,8 @@ use Rattle.store_form.specs.declared.ends.LogFault.{LogFault}
 use Rattle.store_form.specs.declared.ends.LogFault.TheVariants as logs
 use Rattle.member_opening.specs.declared.fault.RestoreFault.{RestoreFault}
 use Rattle.member_opening.specs.declared.fault.RestoreFault.TheVariants as faults
-use Rattle.node_run.specs.Members.{HasNotLived, IsRefused, IsStill, Run}
+use Rattle.member_opening.specs.Rooms.{IsStill}
+use Rattle.node_run.specs.Members.{HasNotLived, IsRefused, Run}
 use Rattle.node_run.specs.Statuses.{restore_status, room_status, store_status, trail_status}
 use Rattle.node_run.specs.declared.status.NodeStatus.{NodeStatus}
 use Rattle.node_run.specs.declared.status.NodeStatus.TheVariants as ends

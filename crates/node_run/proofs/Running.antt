@@ -19,8 +19,9 @@ use Rattle.member_opening.specs.Headings.{head_by}
 use Rattle.member_opening.specs.Restorings.{node_by, parts_in, store_fault}
 use Rattle.member_opening.specs.declared.settings.Settings.{Settings}
 use Rattle.trail.specs.declared.opening.TrailOpening.{TrailOpening}
-use Rattle.node_run.specs.Members.{HasLeft, HasLived, HasNotLived, HasStayed, IsRefused, KeepsRoom, KeepsTrails, LifeOver, MayLackDevices, RefusedBy, Room, Run, RunEnd, RunOver, StoreOver}
-use Rattle.node_run.specs.Opened.{IsAsOpened, OpensWith}
+use Rattle.member_opening.specs.Rooms.{Room}
+use Rattle.node_run.specs.Members.{HasLeft, HasLived, HasNotLived, HasStayed, IsRefused, KeepsRoom, KeepsTrails, LifeOver, MayLackDevices, RefusedBy, Run, RunEnd, RunOver, StoreOver}
+use Rattle.member_opening.specs.Opened.{IsAsOpened, OpensWith}
 use Rattle.node_run.specs.Statuses.{room_status}
 use Rattle.node_run.specs.declared.status.NodeStatus.{NodeStatus}
 use Rattle.node_run.specs.declared.status.NodeStatus.TheVariants as ends
@@ -214,14 +215,4 @@ pub not-had : {S : Type 0} (r : Run S) (room : Room Cells) (status : NodeStatus)
 not-had r room status fault is keeps within none = record {
   keeps = keeps;
   ended = inl (record { none = none; same = λ told. inr (subst MayLackDevices (sym is) (may-lack fault)); within = within });
-}
-
--- devices that were taken may be put back, however often they failed since
-pub held-still : {D : Type 0} (taken : Address → Option ℕ) (faults : D → ℕ) (dir : List ℕ) (member : ℕ) (old new : Disks D) → AreHeld taken faults dir member old → NoneFell faults old new
-    → AreHeld taken faults dir member new
-held-still taken faults dir member old new held fell = record {
-  even_log = record { before = held.even_log.before; is = held.even_log.is; later = omega (arith, held.even_log.later, fell.even_log) };
-  odd_log = record { before = held.odd_log.before; is = held.odd_log.is; later = omega (arith, held.odd_log.later, fell.odd_log) };
-  even_slot = record { before = held.even_slot.before; is = held.even_slot.is; later = omega (arith, held.even_slot.later, fell.even_slot) };
-  odd_slot = record { before = held.odd_slot.before; is = held.odd_slot.is; later = omega (arith, held.odd_slot.later, fell.odd_slot) };
 }

@@ -1,6 +1,5 @@
 pub mod Lives
 pub mod Members
-pub mod Opened
 pub mod Rounds
 pub mod Statuses
 pub mod Wires

@@ -11,27 +11,16 @@ use Rattle.durable_store.specs.declared.store.Store.{Store}
 use Rattle.node_rules.specs.Nodes.{Node}
 use Rattle.member_opening.specs.Devices.{AreAsBefore, AreWithin, KeepsBeside, devices_at, images_at}
 use Rattle.member_opening.specs.Headings.{head_by}
+use Rattle.member_opening.specs.Rooms.{IsStill, Room}
 use Rattle.member_opening.specs.Restorings.{node_by, parts_in, store_fault}
 use Rattle.member_opening.specs.declared.settings.Settings.{Settings}
 use Rattle.node_rooms.specs.Texts.{IsEmpty}
 use Rattle.trail.specs.declared.opening.TrailOpening.{TrailOpening}
 use Rattle.node_run.specs.Lives.{LifeEnd}
-use Rattle.node_run.specs.Opened.{IsAsOpened, OpensWith}
+use Rattle.member_opening.specs.Opened.{IsAsOpened, OpensWith}
 use Rattle.node_run.specs.Rounds.{IsLeftBy}
 use Rattle.node_run.specs.declared.status.NodeStatus.{NodeStatus}
 use Rattle.node_run.specs.declared.status.NodeStatus.TheVariants as ends
-
--- A room before a run and after it: what it keeps at each address, and, of what is taken, how often it had failed when it was taken.
-pub record Room (Content : Type 0) : Type 0 where
-  pub before : Address → Content
-  pub after : Address → Content
-  pub taken_before : Address → Option ℕ
-  pub taken_after : Address → Option ℕ
-
--- a room that is as it was
-pub record IsStill {Content : Type 0} (room : Room Content) : Type 0 where
-  pub kept : room.after ≡ room.before
-  pub taken : room.taken_after ≡ room.taken_before
 
 -- What a run of a member was given, and what was left, written and kept before it and after it.
 pub record Run (S : Type 0) : Type 1 where

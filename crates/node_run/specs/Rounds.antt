@@ -9,9 +9,9 @@ use Rattle.trail.specs.declared.event.TrailEvent.{TrailEvent}
 use Rattle.trail_rules.specs.Replays.{core_steps, needed, replay}
 use Rattle.node_played.specs.Lives.{made_texts}
 use Rattle.node_seat.specs.Seats.{IsFirst}
-use Rattle.node_loops.specs.Rounds.{RoundsOf}
+use Rattle.node_endings.specs.Rounds.{RoundsOf}
 use Rattle.node_run.specs.Lives.{Life, LifeEnd}
-use Rattle.node_run.specs.Opened.{IsAsOpened}
+use Rattle.member_opening.specs.Opened.{IsAsOpened}
 use Rattle.node_run.specs.declared.status.NodeStatus.{NodeStatus}
 use Rattle.node_run.specs.declared.status.NodeStatus.TheVariants as ends
 

@@ -10,7 +10,7 @@ ghost use Rattle.trail.specs.Trails.{trail_text};
 ghost use Rattle.member_opening.specs.Restorings.{KeepsCounts};
 ghost use Rattle.node_run.specs.Lives.{LifeEnd};
 ghost use Rattle.node_run.specs.Statuses.{all_went, status_of};
-ghost use Rattle.node_run.specs.Opened.{IsOpened};
+ghost use Rattle.member_opening.specs.Opened.{IsOpened};
 ghost use Rattle.node_run.specs.Rounds.{IsLeftBy, LifeFrom};
 ghost use Rattle.node_run.specs.Wires.{AreFresh};
 

@@ -7,7 +7,7 @@ ghost use Rattle.member_opening.specs.Devices.{images_at};
 ghost use Rattle.member_opening.specs.Headings.{head_by};
 ghost use Rattle.member_opening.specs.Restorings.{KeepsCounts};
 ghost use Rattle.node_run.specs.Members.{RunEnd, RunOver, StoreOver};
-ghost use Rattle.node_run.specs.Opened.{IsOpened, OpensWith};
+ghost use Rattle.member_opening.specs.Opened.{IsOpened, OpensWith};
 ghost use Rattle.node_run.specs.Wires.{AreFresh};
 
 use crate::life::{Remains, run_life};

@@ -10,7 +10,7 @@ ghost use Rattle.group_links.specs.Link.{in_link, out_link};
 ghost use Rattle.node_ends.specs.Intakes.{Reads, IsDone, IsCutOff};
 ghost use Rattle.node_ends.specs.Outlets.{Writes};
 ghost use Rattle.node_endings.specs.Loops.{gave_up, loses};
-ghost use Rattle.node_loops.specs.Rounds.{RoundsOf};
+ghost use Rattle.node_endings.specs.Rounds.{RoundsOf};
 ghost use Rattle.node_threads.specs.Works.{MayWork, ReadMade, WorkMade, WriteMade};
 
 use check_worker::worker::CheckWorker;

@@ -24,8 +24,8 @@ use Rattle.member_opening.specs.declared.settings.Settings.{Settings}
 use Rattle.audit_rules.specs.Audits.{CanBegin, damage_by, is_client}
 use Rattle.audit_rules.specs.declared.recorded.Recorded.{Recorded}
 use Rattle.group_run.specs.Parties.{AreOver, ClientOver, MemberOver}
-use Rattle.group_parties.specs.Runs.{GroupRun, member_settings}
-use Rattle.group_parties.specs.declared.settings.GroupSettings.{GroupSettings}
+use Rattle.group_opening.specs.Runs.{GroupRun, member_settings}
+use Rattle.group_opening.specs.declared.settings.GroupSettings.{GroupSettings}
 
 -- ---- what its store restored
 

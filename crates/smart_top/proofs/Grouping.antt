@@ -34,14 +34,14 @@ use Rattle.command_words.specs.declared.command.Command.TheVariants as commands
 use Rattle.command_words.specs.declared.node_words.GroupWords.{GroupWords}
 use Rattle.script_play.specs.declared.status.Status.{Status}
 use Rattle.script_play.specs.declared.status.Status.TheVariants as ends
-use Rattle.group_parties.specs.Berths.{IsRefusedBy}
+use Rattle.group_opening.specs.Berths.{IsRefusedBy}
 use Rattle.group_run.specs.Ends.{GroupEnd}
-use Rattle.group_parties.specs.Numbers.{numbers_to}
-use Rattle.node_run.specs.Members.{IsStill, Room}
+use Rattle.group_opening.specs.Numbers.{numbers_to}
+use Rattle.member_opening.specs.Rooms.{IsStill, Room}
 use Rattle.group_run.specs.Parties.{AreOver, GroupOver, MemberOver, accepted_by, trails_of}
-use Rattle.group_parties.specs.Rooms.{KeepsRest}
-use Rattle.group_parties.specs.Runs.{GroupRun, client_head, member_settings}
-use Rattle.group_parties.specs.declared.settings.GroupSettings.{GroupSettings}
+use Rattle.group_opening.specs.Rooms.{KeepsRest}
+use Rattle.group_opening.specs.Runs.{GroupRun, client_head, member_settings}
+use Rattle.group_opening.specs.declared.settings.GroupSettings.{GroupSettings}
 use Rattle.group_run.specs.declared.status.GroupStatus.{GroupStatus}
 use Rattle.group_run.specs.declared.status.GroupStatus.TheVariants as groups
 use Rattle.snapshot_form.specs.Replicas.{is_first_view}

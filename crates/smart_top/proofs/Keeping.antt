@@ -24,7 +24,7 @@ use Rattle.audit_laws.specs.Written.{AreApart, IsShort, IsWithin, IsWritten, tex
 use Rattle.audit_laws.proofs.Rereading.{written-read}
 use Rattle.group_run.specs.Ends.{IsAccepted}
 use Rattle.group_run.specs.Parties.{AreOver, ClientOver, GroupOver, IsKept, MemberOver, trails_of}
-use Rattle.group_parties.specs.Runs.{GroupRun}
+use Rattle.group_opening.specs.Runs.{GroupRun}
 use Rattle.smart_top.specs.Groups.{AreReadAgain, HasParts, MayBeRead}
 use Rattle.smart_top.proofs.OneReading.{finds-none}
 

@@ -16,7 +16,8 @@ use Rattle.command_words.specs.declared.command.Command.TheVariants as commands
 use Rattle.command_words.specs.declared.node_words.NodeWords.{NodeWords}
 use Rattle.script_play.specs.declared.status.Status.{Status}
 use Rattle.script_play.specs.declared.status.Status.TheVariants as ends
-use Rattle.node_run.specs.Members.{HasKept, HasLeft, KeepsRoom, Room, Run}
+use Rattle.member_opening.specs.Rooms.{Room}
+use Rattle.node_run.specs.Members.{HasKept, HasLeft, KeepsRoom, Run}
 use Rattle.node_run.specs.declared.status.NodeStatus.{NodeStatus}
 use Rattle.node_run.specs.declared.status.NodeStatus.TheVariants as nodes
 use Rattle.smart_top.specs.Nodes.{IsFrames, NodeEnd, status_by}

@@ -27,13 +27,13 @@ use Rattle.trail_replies.specs.Answers.{IsAnswer}
 use Rattle.script_play.specs.declared.status.Status.{Status}
 use Rattle.script_play.specs.declared.status.Status.TheVariants as ends
 use Rattle.command_words.specs.declared.node_words.GroupWords.{GroupWords}
-use Rattle.node_run.specs.Members.{IsStill}
+use Rattle.member_opening.specs.Rooms.{IsStill}
 use Rattle.group_run.specs.Ends.{GroupEnd, IsAccepted}
 use Rattle.group_run.specs.Lines.{all_lines}
 use Rattle.group_run.specs.Parties.{GroupOver, accepted_by, trails_of}
-use Rattle.group_parties.specs.Rooms.{KeepsRest}
-use Rattle.group_parties.specs.Runs.{GroupRun}
-use Rattle.group_parties.specs.declared.settings.GroupSettings.{GroupSettings}
+use Rattle.group_opening.specs.Rooms.{KeepsRest}
+use Rattle.group_opening.specs.Runs.{GroupRun}
+use Rattle.group_opening.specs.declared.settings.GroupSettings.{GroupSettings}
 use Rattle.group_run.specs.declared.status.GroupStatus.{GroupStatus}
 use Rattle.group_run.specs.declared.status.GroupStatus.TheVariants as groups
 use Rattle.smart_top.specs.Audits.{AuditEnd, kind_of}

@@ -17,7 +17,8 @@ use Rattle.command_words.specs.declared.node_words.NodeWords.{NodeWords}
 use Rattle.trail.specs.declared.opening.App.TheVariants as apps
 use Rattle.member_opening.specs.Restorings.{parts_in, store_fault}
 use Rattle.member_opening.specs.declared.settings.Settings.{Settings}
-use Rattle.node_run.specs.Members.{Room, Run, RunEnd}
+use Rattle.member_opening.specs.Rooms.{Room}
+use Rattle.node_run.specs.Members.{Run, RunEnd}
 use Rattle.node_run.specs.declared.status.NodeStatus.{NodeStatus}
 use Rattle.node_run.specs.declared.status.NodeStatus.TheVariants as nodes
 

@@ -12,7 +12,7 @@ use clock_gate::clock::Clock;
 use clock_gate::gate::Gate;
 use command_words::node_words::GroupWords;
 use disk_model::room::DiskRoom;
-use group_parties::settings::GroupSettings;
+use group_opening::settings::GroupSettings;
 use group_run::run::run_group;
 use group_run::status::GroupStatus;
 use node_rooms::trails::TrailRoom;

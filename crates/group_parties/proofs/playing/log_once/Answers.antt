@@ -1,9 +1,9 @@
 use Rattle.std.proofs.Common.{Ok, Err, ap, sym, true≢false, ◌∙◌}
 use Rattle.store_laws.specs.Stops.{is_installed}
 use Rattle.log_lane.specs.Lane.{lane_heard_put, lane_taken}
-use Rattle.node_endings.proofs.Faults.{disk_failed, fell_none}
-use Rattle.node_loops.proofs.Chained.{no_rounds, more_rounds}
-use Rattle.node_loops.proofs.Ends.{over_failed}
+use Rattle.durable_store.proofs.Faults.{disk_failed, fell_none}
+use Rattle.node_endings.proofs.Chained.{no_rounds, more_rounds}
+use Rattle.node_endings.proofs.Ends.{over_failed}
 use Rattle.group_parties.proofs.playing.log_once.Goals as goal
 
 pub returns-in-Ok : goal.returns-in-Ok

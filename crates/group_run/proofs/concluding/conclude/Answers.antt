@@ -8,7 +8,7 @@ use Rattle.trail.specs.declared.opening.TrailOpening.{TrailOpening}
 use Rattle.group_client.specs.Loops.{Output}
 use Rattle.group_wires.specs.declared.row.Row.{Row}
 use Rattle.group_run.specs.Concluded.{AreGathered}
-use Rattle.group_parties.specs.Runs.{GroupRun, client_head}
+use Rattle.group_opening.specs.Runs.{GroupRun, client_head}
 use Rattle.group_parties.specs.declared.ending.MemberEnd.{MemberEnd}
 use Rattle.group_run.specs.declared.status.GroupStatus.TheVariants as ends
 use Rattle.group_run.proofs.Beginning.{can-begin}
@@ -16,7 +16,7 @@ use Rattle.group_run.proofs.Causing.{disk-rose, rest-all, rest-many, rest-taken,
 use Rattle.group_run.proofs.Unrun.{left-so}
 use Rattle.group_run.proofs.Conclusions.{failed-disk, failed-output, failed-store, failed-trail}
 use Rattle.group_run.proofs.Overs.{end-lived, end-lost, gathered-begin, gathered-few, gathered-linked}
-use Rattle.group_parties.proofs.Ranges.{change, returned-many}
+use Rattle.group_opening.proofs.Ranges.{change, returned-many}
 use Rattle.group_run.proofs.Returned.{devices-same, kept-same}
 use Rattle.group_run.proofs.concluding.conclude.Goals as goal
 

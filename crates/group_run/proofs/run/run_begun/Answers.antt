@@ -6,11 +6,12 @@ use Rattle.member_opening.specs.Devices.{AreHeld, IsHeld}
 use Rattle.durable_store.specs.declared.store.Store.{Store}
 use Rattle.group_client.specs.Loops.{Output}
 use Rattle.group_run.specs.Ends.{GroupEnd}
-use Rattle.group_parties.specs.Runs.{GroupRun}
+use Rattle.group_opening.specs.Runs.{GroupRun}
 use Rattle.group_run.specs.declared.status.GroupStatus.{GroupStatus}
-use Rattle.group_parties.proofs.Lending.{returned-along}
-use Rattle.group_parties.proofs.Ranges.{change}
-use Rattle.group_run.proofs.Returned.{held-at, out-by, some-of}
+use Rattle.group_opening.proofs.Lending.{returned-along}
+use Rattle.group_opening.proofs.Ranges.{change}
+use Rattle.group_parties.proofs.Stationed.{some-of}
+use Rattle.group_run.proofs.Returned.{held-at, out-by}
 use Rattle.group_client.specs.declared.reply_line.LineFault.TheVariants as lines
 use Rattle.group_run.proofs.Unrun.{err-of, line-failed, line-not-store, write-by, write-of}
 use Rattle.group_run.proofs.run.run_begun.Goals as goal

@@ -1,13 +1,13 @@
 use Rattle.std.proofs.Common.{◌∙◌, ◌+◌, refl, sym, subst}
-use Rattle.node_endings.proofs.Faults.{rose_after}
+use Rattle.durable_store.proofs.Faults.{rose_after}
 use Rattle.app_count.specs.Counts.{counting}
 use Rattle.app_count.specs.declared.Count.{Count}
 use Rattle.member_opening.specs.Devices.{images_at}
 use Rattle.group_run.specs.Ends.{GroupEnd}
-use Rattle.group_parties.specs.Runs.{GroupRun}
+use Rattle.group_opening.specs.Runs.{GroupRun}
 use Rattle.group_run.specs.declared.status.GroupStatus.{GroupStatus}
-use Rattle.group_parties.specs.declared.berth.OpeningEnd.TheVariants as openings
-use Rattle.group_parties.proofs.Ranges.{lent-back, rest-none}
+use Rattle.group_opening.specs.declared.berth.OpeningEnd.TheVariants as openings
+use Rattle.group_opening.proofs.Ranges.{lent-back, rest-none}
 use Rattle.group_run.proofs.Unrun.{disk-of, err-of, not-opened}
 use Rattle.group_run.proofs.run.run_group.Goals as goal
 

@@ -1,13 +1,13 @@
 use Rattle.std.proofs.Common.{◌≡◌, ◌∙◌, ◌+◌, vec_len, refl, sym, subst, arith}
-use Rattle.node_endings.proofs.Faults.{rose_after}
+use Rattle.durable_store.proofs.Faults.{rose_after}
 use Rattle.app_count.specs.Counts.{counting}
 use Rattle.app_count.specs.declared.Count.{Count}
 use Rattle.group_run.specs.Ends.{GroupEnd}
-use Rattle.group_parties.specs.Runs.{GroupRun}
+use Rattle.group_opening.specs.Runs.{GroupRun}
 use Rattle.group_run.specs.declared.status.GroupStatus.{GroupStatus}
 use Rattle.faults.specs.declared.Fault.TheVariants as faults
-use Rattle.group_parties.proofs.Lending.{returned-along}
-use Rattle.group_parties.proofs.Ranges.{change, lent-back, rest-none}
+use Rattle.group_opening.proofs.Lending.{returned-along}
+use Rattle.group_opening.proofs.Ranges.{change, lent-back, rest-none}
 use Rattle.group_run.proofs.Unrun.{all-held, err-of, has-heads, no-room, not-begun, trail-not-disk, trail-not-store, trail-not-write, trail-of}
 use Rattle.group_run.proofs.run.run_opened.Goals as goal
 

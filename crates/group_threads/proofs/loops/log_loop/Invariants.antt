@@ -2,7 +2,7 @@ use Rattle.std.proofs.Common.{◌≤◌}
 use Rattle.durable_store.specs.Disks.{NoneFell}
 use Rattle.log_lane.specs.Lane.{lane_taken}
 use Rattle.group_threads.specs.Desks.{MayWork}
-use Rattle.node_loops.specs.Rounds.{RoundsOf}
+use Rattle.node_endings.specs.Rounds.{RoundsOf}
 use Rattle.group_threads.proofs.loops.log_loop.Given as goal
 
 abbrev pub invariant-loop : goal.invariant-loop

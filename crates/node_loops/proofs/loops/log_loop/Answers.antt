@@ -1,8 +1,8 @@
 use Rattle.std.proofs.Common.{Ok, Err, ap}
 use Rattle.log_lane.specs.Lane.{lane_heard_put}
-use Rattle.node_endings.proofs.Faults.{fell_none, fell_after, disk_failed}
-use Rattle.node_loops.proofs.Ends.{at_least, done_failed, not_done, over_done, over_failed, up_more}
-use Rattle.node_loops.proofs.Chained.{no_rounds, more_rounds}
+use Rattle.durable_store.proofs.Faults.{fell_none, fell_after, disk_failed}
+use Rattle.node_endings.proofs.Ends.{at_least, done_failed, not_done, over_done, over_failed, up_more}
+use Rattle.node_endings.proofs.Chained.{no_rounds, more_rounds}
 use Rattle.node_loops.proofs.loops.log_loop.Goals as goal
 
 pub loop-init : goal.loop-init

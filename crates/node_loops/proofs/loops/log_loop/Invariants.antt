@@ -2,7 +2,7 @@ use Rattle.std.proofs.Common.{◌≡◌, ◌≤◌, false}
 use Rattle.durable_store.specs.Disks.{NoneFell}
 use Rattle.durable_store.specs.Stores.{state_of, Stands}
 use Rattle.log_lane.specs.Lane.{lane_taken}
-use Rattle.node_loops.specs.Rounds.{RoundsOf}
+use Rattle.node_endings.specs.Rounds.{RoundsOf}
 use Rattle.node_loops.proofs.loops.log_loop.Given as goal
 
 abbrev pub invariant-loop : goal.invariant-loop

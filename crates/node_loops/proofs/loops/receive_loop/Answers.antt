@@ -1,4 +1,4 @@
-use Rattle.node_loops.proofs.Ends.{reads-by}
+use Rattle.node_endings.proofs.Ends.{reads-by}
 use Rattle.node_loops.proofs.loops.receive_loop.Goals as goal
 
 pub returns-clause-reads : goal.returns-clause-reads

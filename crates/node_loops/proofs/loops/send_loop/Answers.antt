@@ -1,4 +1,4 @@
-use Rattle.node_loops.proofs.Ends.{writes-by}
+use Rattle.node_endings.proofs.Ends.{writes-by}
 use Rattle.node_loops.proofs.loops.send_loop.Goals as goal
 
 pub returns-in-Err-clause-wrote : goal.returns-in-Err-clause-wrote

@@ -1,5 +1,5 @@
 use Rattle.std.proofs.Common.{◌∙◌, inl, inr, ℕ, refl, sym, subst}
-use Rattle.node_endings.proofs.Faults.{rose_after}
+use Rattle.durable_store.proofs.Faults.{rose_after}
 use Rattle.node_run.specs.Members.{Run}
 use Rattle.node_run.specs.Rounds.{IsLeftBy}
 use Rattle.node_run.specs.declared.status.NodeStatus.TheVariants as ends

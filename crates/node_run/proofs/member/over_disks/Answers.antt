@@ -1,7 +1,7 @@
 use Rattle.std.proofs.Common.{◌∙◌, inl, refl, sym, ap, arith}
 use Rattle.store_laws.specs.States.{StoreState}
 use Rattle.durable_store.specs.Disks.{contents}
-use Rattle.node_endings.proofs.Faults.{disk_rose_after, fell_after}
+use Rattle.durable_store.proofs.Faults.{disk_rose_after, fell_after}
 use Rattle.node_run.specs.Members.{Run}
 use Rattle.node_run.specs.declared.status.NodeStatus.TheVariants as ends
 use Rattle.node_run.proofs.Refused.{for-store, store-else, store-failed}

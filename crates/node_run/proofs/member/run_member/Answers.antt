@@ -2,11 +2,13 @@ use Rattle.std.proofs.Common.{◌≡◌, ◌∙◌, refl, sym}
 use Rattle.disk_model.specs.Cells.{Cells}
 use Rattle.durable_store.specs.Disks.{contents}
 use Rattle.member_opening.specs.Devices.{images_at}
-use Rattle.node_endings.proofs.Faults.{rose_after}
-use Rattle.node_run.specs.Members.{KeepsRoom, Room, Run}
+use Rattle.durable_store.proofs.Faults.{rose_after}
+use Rattle.member_opening.specs.Rooms.{Room}
+use Rattle.node_run.specs.Members.{KeepsRoom, Run}
 use Rattle.node_run.specs.declared.status.NodeStatus.TheVariants as ends
 use Rattle.node_run.proofs.Refused.{for-room, room-else, room-failed}
-use Rattle.node_run.proofs.Running.{held-still, keeps-room, not-had, run-end}
+use Rattle.member_opening.proofs.Held.{held-still}
+use Rattle.node_run.proofs.Running.{keeps-room, not-had, run-end}
 use Rattle.node_run.proofs.member.run_member.Goals as goal
 
 pub put_back-requires : goal.put_back-requires

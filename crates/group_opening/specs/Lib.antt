@@ -1,0 +1,5 @@
+pub mod Berths
+pub mod Lanes
+pub mod Numbers
+pub mod Rooms
+pub mod Runs
