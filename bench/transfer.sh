@@ -11,25 +11,25 @@ case ${1:-4} in
     exit 2
     ;;
 esac
-(cd "$top/crates/bench_transfer" && rt run -- 1) >/dev/null 2>&1 || exit 1
-program=$top/crates/bench_transfer/out/bench_transfer
+(cd "$top/crates/benches" && rt run -- "transfer 1") >/dev/null 2>&1 || exit 1
+program=$top/crates/benches/out/benches
 folder=$(mktemp -d) || exit 1
 trap 'rm -f "$folder/memory"; rmdir "$folder"' EXIT
 
 # The peak memory for a state of so many MiB, in KiB.
 peak() {
-    /usr/bin/time -f %M -o "$folder/memory" "$program" "$1" >/dev/null || exit 1
+    /usr/bin/time -f %M -o "$folder/memory" "$program" "transfer $1" >/dev/null || exit 1
     cat "$folder/memory"
 }
 
 # A state of so many MiB. Prints a line, and answers whether the memory is within the limit.
 measure() {
     start=$(date +%s.%N)
-    said=$("$program" "$1") || exit 1
+    said=$("$program" "transfer $1") || exit 1
     end=$(date +%s.%N)
     awk -v mib="$1" -v said="$said" -v peak="$(peak "$1")" -v none="$none" -v seconds="$(echo "$end $start" | awk '{ print $1 - $2 }')" 'BEGIN {
         split(said, word, " ")
-        printf "%2d MiB in %3d parts: %.3f s, %d KiB of memory\n", mib, word[2], seconds, peak - none
+        printf "%2d MiB in %3d parts: %.3f s, %d KiB of memory\n", mib, word[4], seconds, peak - none
         exit peak - none > 3 * 1024 * mib + 2048
     }'
 }

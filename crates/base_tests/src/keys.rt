@@ -1,4 +1,4 @@
-//! Digests against values from outside. Tags from outside are checked by the rows of audit_rows and tables.
+//! Digests against values from outside. Tags from outside are checked by the rows of top_rows and tables.
 use smart_base::keys::Digester;
 use smart_keys::hash::{Sha, hmac};
 

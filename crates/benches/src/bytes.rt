@@ -3,6 +3,7 @@
 ghost use Rattle.std.specs.Prelude.{◌<◌, ◌^◌};
 
 use crate::done::{Done, Stopped};
+use crate::snapshot_head::HEAD;
 use app_kv::KeyValueStore;
 use sha2::{Digest, Sha256};
 use smart_base::bytes::Payload;
@@ -44,11 +45,6 @@ const VALUE: usize = 100;
 /// The bytes of the store's own snapshot: a number, and each key of 3 bytes and its value behind
 /// lengths.
 const STORE_BYTES: u32 = 2 + 4096 * (4 + 3 + 4 + 100);
-
-/// What stands before the store's snapshot in its replica's: place 1, view 0 of members 1 to 4, and
-/// no client's line.
-const HEAD: [u8; 35] =
-    *b"\0\0\0\0\0\0\0\x01\0\x01\0\0\0\0\0\0\0\0\0\0\0\x01\x01\0\x04\0\x01\0\x02\0\x03\0\x04\0\0";
 
 /// A signed proposal with a full batch.
 fn proposal(alloc: Global) -> Result<Message, Stopped> {

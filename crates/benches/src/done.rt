@@ -30,7 +30,7 @@ pub enum Stopped {
     NoMemory,
     /// The words name no bench.
     Words,
-    /// What was written as a snapshot is none.
+    /// What was written as a snapshot is none, or no plan brings it.
     Snapshot,
     /// A disk has failed, or a file was not opened.
     Disk,

@@ -8,10 +8,14 @@ mod done;
 mod groups;
 mod lanes;
 mod openings;
+mod snapshot_head;
+mod text;
+mod transfers;
 mod wanted;
 
 use crate::done::{Done, Stopped};
 use crate::lanes::{by_lane, by_queue};
+use crate::transfers::transfer;
 use crate::wanted::{count_of, fill_of};
 use std::process::ExitCode;
 use std::{env, io};
@@ -37,16 +41,28 @@ fn say(rt: &HostRuntime, word: &str, ended: Result<Done, Stopped>) -> io::Result
     }
 }
 
+/// Takes over a replica, and says of how many bytes and parts it was joined, and how many bytes its state
+/// has. Answers the exit status.
+fn say_transfer(rt: &HostRuntime, word: &str, words: &str) -> io::Result<u8> {
+    match transfer(rt.alloc(), words) {
+        Ok(taken) => {
+            println!(rt; "{word} {} {} {}", taken.bytes, taken.parts, taken.state)?;
+            Ok(0)
+        }
+        Err(stopped) => Ok(stopped.status()),
+    }
+}
+
 fn main(rt: HostRuntime) -> io::Result<ExitCode> {
     let mut status = 0;
     for word in env::args(&rt)?.skip(1) {
         let (bench, words) = word.split_once(' ').unwrap_or((word.as_str(), ""));
-        let ended = match bench {
-            "lane" => by_lane(&rt, rt.alloc(), words),
-            "queue" => by_queue(&rt, rt.alloc(), words),
-            _ => work(&rt, bench, words),
+        status = match bench {
+            "transfer" => say_transfer(&rt, word.as_str(), words)?,
+            "lane" => say(&rt, word.as_str(), by_lane(&rt, rt.alloc(), words))?,
+            "queue" => say(&rt, word.as_str(), by_queue(&rt, rt.alloc(), words))?,
+            _ => say(&rt, word.as_str(), work(&rt, bench, words))?,
         };
-        status = say(&rt, word.as_str(), ended)?;
         if status != 0 {
             break;
         }

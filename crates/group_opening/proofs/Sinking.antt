@@ -1,5 +1,5 @@
 -- The sinks of trails that were taken from a room so far, and one more of them.
-use Rattle.std.proofs.Common.{◌≡◌, ◌∙◌, ℕ, zero, suc, ◌+◌, ◌<◌, ◌≤◌, ◌⊎◌, inl, inr, List, [], ◌∷◌, ◌++◌, length, get_or, Option, Some, sym, ap, subst, arith}
+use Rattle.std.proofs.Common.{◌≡◌, ◌∙◌, ℕ, zero, suc, ◌+◌, ◌^◌, ◌<◌, ◌≤◌, ◌⊎◌, inl, inr, List, [], ◌∷◌, ◌++◌, length, get_or, Option, Some, sym, ap, subst, arith}
 use Rattle.std.proofs.lemmas.Bool.{cases_lt}
 use Rattle.std.proofs.lemmas.List.{get_or_append_left, get_or_push, get_or_default}
 use Rattle.disk_model.specs.Rooms.{Address, address, KeepsOthers}
@@ -7,6 +7,34 @@ use Rattle.member_opening.specs.Devices.{IsHeld}
 use Rattle.trail.specs.declared.opening.TrailOpening.{TrailOpening}
 use Rattle.group_opening.specs.Berths.{IsHeaded}
 use Rattle.group_opening.specs.declared.berth.Berth.{Berth}
+
+-- ---- numbers
+
+pub counted : (all items index : ℕ) → all ≡ index + 1 → all ≡ items → items ≡ index + 1
+counted all items index many same = omega (arith, many, same)
+
+pub one-counted : (before after index : ℕ) → before ≡ index + 1 → after ≡ before + 1 → after ≡ index + 1 + 1
+one-counted before after index many more = omega (arith, many, more)
+
+pub still-room : (count before after : ℕ) → count + 1 ≤ before → after ≡ before → count + 1 ≤ after
+still-room count before after room same = omega (arith, room, same)
+
+pub room-left-by : (count index made places : ℕ) → made ≡ index + 1 → count + 1 ≤ places → index < count → made < places
+room-left-by count index made places many room less = omega (arith, many, room, less)
+
+pub number-fits : (count index : ℕ) → count < 2 ^ 16 → index < count → index + 1 < 2 ^ 16
+number-fits count index few less = omega (arith, few, less)
+
+pub few-sinks : (count index made kept : ℕ) → kept ≡ made → made ≡ index + 1 → count < 2 ^ 16 → index < count → kept ≤ 2 ^ 16
+few-sinks count index made kept same many few less = omega (arith, same, many, few, less)
+
+pub later-by : (first mid last : ℕ) → first ≤ mid → mid ≤ last → first ≤ last
+later-by first mid last one two = omega (arith, one, two)
+
+pub from-zero : (n : ℕ) → 0 ≤ n
+from-zero n = omega arith
+
+-- ---- sinks
 
 pub other-member : (dir : List ℕ) (a b : ℕ) → (a ≡ b → ⊥) → address dir a 0 ≡ address dir b 0 → ⊥
 other-member dir a b apart same = apart (ap (λ (x : Address). x.member) same)

@@ -1,8 +1,8 @@
 //! How a group is gathered before it runs: the sinks of its trails, its lanes and its links.
-ghost use Rattle.std.specs.Prelude.{◌≡◌, ◌≤◌, ◌+◌, ◌<◌, ◌^◌, [], ℕ, length, vec_len, vec_capacity, slice_index_or, IfOk, IsErrOf, OnErr, Some};
+ghost use Rattle.std.specs.Prelude.{◌≡◌, ◌≤◌, ◌+◌, ◌<◌, ◌^◌, [], ℕ, length, vec_len, vec_capacity, slice_index_or, IfOk, IsErrOf, OnErr, OnOk, Some, None, ◌++◌, ◌∷◌};
 ghost use Rattle.faults.specs.Counts.{Rose};
 ghost use Rattle.group_opening.specs.Berths.{IsHeaded};
-ghost use Rattle.disk_model.specs.Rooms.{address};
+ghost use Rattle.disk_model.specs.Rooms.{address, KeepsOthers};
 ghost use Rattle.smart_base.specs.Lists.{Each};
 ghost use Rattle.group_opening.specs.Lanes.{AreFreshLanes};
 ghost use Rattle.group_opening.specs.Rooms.{IsLent, IsReturned, KeepsRest};
@@ -122,6 +122,39 @@ fn first_sink<T: TrailRoom>(
     }
 }
 
+/// Takes the sink of one more trail behind those that are taken, and writes its head. Errors: a failure of the
+/// room or of the sink, which is kept then; want of memory.
+fn next_sink<T: TrailRoom>(
+    alloc: Global,
+    dir: &[u8],
+    index: usize,
+    head: &TrailOpening,
+    entries: &[Bytes],
+    trails: &mut T,
+    sinks: &mut Vec<T::Sink>,
+) -> Result<(), Fault>
+    requires few { index + 1 < 2 ^ 16 }
+    requires room { vec_len sinks.old < vec_capacity sinks.old }
+    ensures more { OnOk result ((sink : T.Sink) × ((sinks.new.items ≡ sinks.old.items ++ sink ∷ []) × IsHeaded T.Sink.written T.Sink.faults (T.taken trails.new) dir.now (index + 1) head.now entries.now sink)) }
+    ensures many { OnOk result ((vec_len sinks.new ≡ vec_len sinks.old + 1) × (vec_capacity sinks.new ≡ vec_capacity sinks.old)) }
+    ensures free { OnOk result (T.taken trails.old (address dir.now (index + 1) 0) ≡ None) }
+    ensures same { OnErr result (sinks.new ≡ sinks.old) }
+    ensures others { KeepsOthers (address dir.now (index + 1) 0) (T.kept trails.old) (T.kept trails.new) }
+    ensures others_taken { KeepsOthers (address dir.now (index + 1) 0) (T.taken trails.old) (T.taken trails.new) }
+    ensures back { OnErr result (T.taken trails.new (address dir.now (index + 1) 0) ≡ T.taken trails.old (address dir.now (index + 1) 0)) }
+    ensures cause { IsErrOf result Fault.Failed → Rose (T.faults trails.old) (T.faults trails.new) }
+    ensures later { T.faults trails.old ≤ T.faults trails.new }
+{
+    let member = MemberId::new(index as u16 + 1);
+    match take_trail(alloc, trails, dir, member, head, entries) {
+        Ok(sink) => {
+            sinks.push_reserved(sink);
+            Ok(())
+        }
+        Err(fault) => Err(fault),
+    }
+}
+
 /// Takes the sinks of all trails, the client's and then the members' ascending, and writes the heads of the
 /// trails. Errors: a failure of the room or of a sink; want of memory. What was taken is kept then.
 pub fn take_sinks<S: Service, D: Disk, T: TrailRoom>(
@@ -149,16 +182,16 @@ pub fn take_sinks<S: Service, D: Disk, T: TrailRoom>(
     };
     for index in 0..berths.len() {
         let berth = &berths[index];
-        let member = MemberId::new(index as u16 + 1);
-        match take_trail(
+        match next_sink(
             alloc,
-            trails,
             dir,
-            member,
+            index,
             &berth.head,
             berth.entries.as_slice(),
+            trails,
+            &mut sinks,
         ) {
-            Ok(sink) => sinks.push_reserved(sink),
+            Ok(()) => {}
             Err(fault) => {
                 keep_sinks(trails, dir, sinks);
                 return Err(fault);

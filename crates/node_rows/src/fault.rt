@@ -11,6 +11,8 @@ pub enum RowFault {
     Word,
     /// A room, a disk or a sink has failed.
     Room,
+    /// A row puts more entries into its lane than there is room for.
+    Full,
     /// A file could not be read or removed, or nothing could be said.
     Output(io::Error),
 }

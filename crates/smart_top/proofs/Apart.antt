@@ -9,6 +9,10 @@ use Rattle.smart_top.specs.Loads.{LoadEnd}
 use Rattle.smart_top.specs.Runs.{RunEnd}
 
 module _ (left left' written written' : Option (List ℕ)) (wants wants' : ℕ) (status : Status) where
+  -- and none finds that the words are no command
+  pub run_words : RunEnd left left' written written' wants wants' status → status ≡ ends.Words → ⊥
+  run_words ended is = subst (RunEnd left left' written written' wants wants') is ended
+
   pub run_trail : RunEnd left left' written written' wants wants' status → status ≡ ends.TrailFault → ⊥
   run_trail ended is = subst (RunEnd left left' written written' wants wants') is ended
 

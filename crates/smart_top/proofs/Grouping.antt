@@ -29,10 +29,7 @@ use Rattle.trail_agreement.specs.Deliveries.{AreSpelled, IsSpelled, NoCollision,
 use Rattle.trail_replies.specs.Answers.{Answered, AnsweredBy, IsAnswer}
 use Rattle.trail_replies.proofs.Answers.{answered_by}
 use Rattle.trail_replies.proofs.Own.{all_own}
-use Rattle.command_words.specs.declared.command.Command.{Command}
-use Rattle.command_words.specs.declared.command.Command.TheVariants as commands
 use Rattle.command_words.specs.declared.node_words.GroupWords.{GroupWords}
-use Rattle.script_play.specs.declared.status.Status.{Status}
 use Rattle.script_play.specs.declared.status.Status.TheVariants as ends
 use Rattle.group_opening.specs.Berths.{IsRefusedBy}
 use Rattle.group_run.specs.Ends.{GroupEnd}
@@ -85,10 +82,6 @@ pub rest_by : {Content : Type 0} (w : GroupWords) (s : GroupSettings) (first dev
 rest_by w s first devices room named rest =
     subst (λ (dir : List ℕ). KeepsRest dir first (w.group.members + 1) devices room) named.dir
     (subst (λ (n : ℕ). KeepsRest s.dir first (n + 1) devices room) named.members rest)
-
--- words name one group
-same_group : (command : Option Command) (words other : GroupWords) → command ≡ Some (commands.Group words) → command ≡ Some (commands.Group other) → other ≡ words
-same_group command words other is also = cc
 
 -- ---- the status of a group, by that of the program
 
@@ -340,17 +333,3 @@ module _ (w : GroupWords) (fits : FitsGroupRun w) (run : GroupSettings → Group
 
   pub group_agreed : (group : GroupStatus) → group ≡ groups.Ok → GroupEnd (run settings) group → GroupAgreed w run
   group_agreed group ok e = ended_agreed (subst (GroupEnd (run settings)) ok e)
-
--- ---- by the words of a command
-
--- a command is these words of a group
-named_by : (command : Option Command) (x : Command) (words other : GroupWords) → command ≡ Some x → x ≡ commands.Group words → command ≡ Some (commands.Group other) → other ≡ words
-named_by command x words other is named also = same_group command words other (is ∙ ap (λ (y : Command). Some y) named) also
-
-pub ended_by : (run : GroupSettings → GroupRun Count) (written written' : Option (List ℕ)) (status : Status) (command : Option Command) (x : Command) (words other : GroupWords) → command ≡ Some x → x ≡ commands.Group words
-    → command ≡ Some (commands.Group other) → GroupEnded words run written written' status → GroupEnded other run written written' status
-ended_by run written written' status command x words other is named also e = subst (λ (w : GroupWords). GroupEnded w run written written' status) (sym (named_by command x words other is named also)) e
-
-pub agreed_by : (run : GroupSettings → GroupRun Count) (command : Option Command) (x : Command) (words other : GroupWords) → command ≡ Some x → x ≡ commands.Group words → command ≡ Some (commands.Group other)
-    → GroupAgreed words run → GroupAgreed other run
-agreed_by run command x words other is named also e = subst (λ (w : GroupWords). GroupAgreed w run) (sym (named_by command x words other is named also)) e

@@ -10,6 +10,7 @@ pub mod Keeping
 pub mod OneReading
 pub mod Ending
 pub mod Closing
+pub mod Commands
 pub mod LoadHeader
 pub mod LoadMeanings
 pub mod Loading

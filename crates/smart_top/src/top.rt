@@ -12,6 +12,7 @@ ghost use Rattle.app_kv.specs.Snapshots.{keeping};
 ghost use Rattle.member_opening.specs.Devices.{images_at};
 ghost use Rattle.smart_top.specs.Audits.{AuditEnd, IsTrails, IsJudged};
 ghost use Rattle.command_words.specs.Commands.{command_of};
+ghost use Rattle.command_words.specs.Ranges.{FitsCommand};
 ghost use Rattle.command_words.specs.declared.node_words.GroupWords.{GroupWords};
 ghost use Rattle.command_words.specs.declared.node_words.NodeWords.{NodeWords};
 ghost use Rattle.app_count.specs.Counts.{counting};
@@ -154,12 +155,10 @@ pub fn play_script<I: Source, O: Sink>(alloc: Global, input: &mut I, output: &mu
     unreachable!()
 }
 
-/// Does what the words say, and writes to `errors` what the parser shows of words that are no command.
-#[tactic(auto, using(crate::proofs::Ending::unread_run, crate::proofs::Loading::unread_load, crate::proofs::Loading::is_complete, crate::proofs::Auditing::unread_audit, crate::proofs::Noding::unread_node, crate::proofs::Apart::run_trail, crate::proofs::Apart::run_disk, crate::proofs::Apart::load_trail, crate::proofs::Apart::load_disk, crate::proofs::Apart::audit_trail, crate::proofs::Apart::audit_disk))]
+/// Does what a command says.
 fn obey<
     I: Source + Send,
     O: Sink + Send,
-    E: Sink,
     M: DiskRoom,
     K: Clock + Send,
     T: TrailRoom,
@@ -168,10 +167,9 @@ fn obey<
 >(
     rt: &H,
     alloc: Global,
-    words: &[String],
+    command: Command,
     input: &mut I,
     output: &mut O,
-    errors: &mut E,
     room: &mut M,
     clock: &mut K,
     trails: &mut T,
@@ -180,39 +178,30 @@ fn obey<
 where
     M::Disk: Send,
     T::Sink: Send,
-    ensures words { result ≡ Status.Words → command_of (map string_bytes words.now) ≡ None }
-    ensures none { command_of (map string_bytes words.now) ≡ None → (result ≡ Status.Words) ⊎ (result ≡ Status.NoMemory) }
-    ensures untouched { command_of (map string_bytes words.now) ≡ None → (input.new ≡ input.old) × (output.new ≡ output.old) }
-    ensures ended { command_of (map string_bytes words.now) ≡ Some Command.World → RunEnd (I.left input.old) (I.left input.new) (O.written output.old) (O.written output.new) (O.wants output.old) (O.wants output.new) result }
-    ensures load { (n : ℕ) → command_of (map string_bytes words.now) ≡ Some (Command.Load n) → (input.new ≡ input.old) × LoadEnd n (O.written output.old) (O.written output.new) (O.wants output.old) (O.wants output.new) result }
-    ensures complete { (n : ℕ) → command_of (map string_bytes words.now) ≡ Some (Command.Load n) → (load_read node_courses n).refused ≡ None → (Rose (O.faults output.old) (O.faults output.new) → ⊥) → (result ≡ Status.Ok) ⊎ (result ≡ Status.NoMemory) }
-    ensures node { (n : NodeWords) → command_of (map string_bytes words.now) ≡ Some (Command.Node n) → NodeEnd (record { meaning = keeping; settings = settings_of n; disk = M.Disk; told = M.Disk.told; remembers = M.Disk.remembers; cells = M.Disk.cells; moment = M.Disk.moment; left_since = M.Disk.left_since; images = images_at (M.cells room.old) n.dir n.id; left_before = I.left input.old; left_after = I.left input.new; written_before = O.written output.old; written_after = O.written output.new; sink = T.Sink; text_of = T.Sink.written; trails = record { before = T.kept trails.old; after = T.kept trails.new; taken_before = T.taken trails.old; taken_after = T.taken trails.new } }) (record { before = M.cells room.old; after = M.cells room.new; taken_before = M.taken room.old; taken_after = M.taken room.new }) result }
-    ensures complete_node { (n : NodeWords) → command_of (map string_bytes words.now) ≡ Some (Command.Node n) → IsFrames (I.left input.old) → M.Disk.told → HaveMeaning n (images_at (M.cells room.old) n.dir n.id) → (Rose (I.faults input.old) (I.faults input.new) → ⊥) → (Rose (O.faults output.old) (O.faults output.new) → ⊥) → (Rose (T.faults trails.old) (T.faults trails.new) → ⊥) → (Rose (M.faults room.old) (M.faults room.new) → ⊥) → (result ≡ Status.Ok) ⊎ (result ≡ Status.NoMemory) }
-    ensures group { (g : GroupWords) → command_of (map string_bytes words.now) ≡ Some (Command.Group g) → (input.new ≡ input.old) × GroupEnded g (λ settings. record { meaning = counting; settings = settings; disk = M.Disk; told = M.Disk.told; remembers = M.Disk.remembers; cells = M.Disk.cells; moment = M.Disk.moment; left_since = M.Disk.left_since; images = λ member. images_at (M.cells room.old) settings.dir member; written_before = O.written output.old; written_after = O.written output.new; wants_before = O.wants output.old; wants_after = O.wants output.new; sink = T.Sink; text_of = T.Sink.written; room = record { before = M.cells room.old; after = M.cells room.new; taken_before = M.taken room.old; taken_after = M.taken room.new }; trails = record { before = T.kept trails.old; after = T.kept trails.new; taken_before = T.taken trails.old; taken_after = T.taken trails.new } }) (O.written output.old) (O.written output.new) result }
-    ensures complete_group { (g : GroupWords) → command_of (map string_bytes words.now) ≡ Some (Command.Group g) → M.Disk.told → AllHaveMeaning g (images_at (M.cells room.old)) → (Rose (O.faults output.old) (O.faults output.new) → ⊥) → (Rose (T.faults trails.old) (T.faults trails.new) → ⊥) → (Rose (M.faults room.old) (M.faults room.new) → ⊥) → IsPlayed result }
-    ensures fresh { (g : GroupWords) → command_of (map string_bytes words.now) ≡ Some (Command.Group g) → result ≡ Status.Ok → GroupAgreed g (λ settings. record { meaning = counting; settings = settings; disk = M.Disk; told = M.Disk.told; remembers = M.Disk.remembers; cells = M.Disk.cells; moment = M.Disk.moment; left_since = M.Disk.left_since; images = λ member. images_at (M.cells room.old) settings.dir member; written_before = O.written output.old; written_after = O.written output.new; wants_before = O.wants output.old; wants_after = O.wants output.new; sink = T.Sink; text_of = T.Sink.written; room = record { before = M.cells room.old; after = M.cells room.new; taken_before = M.taken room.old; taken_after = M.taken room.new }; trails = record { before = T.kept trails.old; after = T.kept trails.new; taken_before = T.taken trails.old; taken_after = T.taken trails.new } }) }
-    ensures apart { ((n : NodeWords) → command_of (map string_bytes words.now) ≡ Some (Command.Node n) → ⊥) → ((g : GroupWords) → command_of (map string_bytes words.now) ≡ Some (Command.Group g) → ⊥) → (room.new ≡ room.old) × ((clock.new ≡ clock.old) × (trails.new ≡ trails.old)) }
-    ensures audit { command_of (map string_bytes words.now) ≡ Some Command.Audit → AuditEnd (I.left input.old) (I.left input.new) (O.written output.old) (O.written output.new) (O.wants output.old) (O.wants output.new) result }
-    ensures complete_audit { command_of (map string_bytes words.now) ≡ Some Command.Audit → IsTrails (I.left input.old) → (Rose (I.faults input.old) (I.faults input.new) → ⊥) → (Rose (O.faults output.old) (O.faults output.new) → ⊥) → IsJudged result }
+    requires { FitsCommand command }
+    ensures words { result ≡ Status.Words → ⊥ }
+    ensures ended { command ≡ Command.World → RunEnd (I.left input.old) (I.left input.new) (O.written output.old) (O.written output.new) (O.wants output.old) (O.wants output.new) result }
+    ensures load { (n : ℕ) → command ≡ Command.Load n → (input.new ≡ input.old) × LoadEnd n (O.written output.old) (O.written output.new) (O.wants output.old) (O.wants output.new) result }
+    ensures complete { (n : ℕ) → command ≡ Command.Load n → (load_read node_courses n).refused ≡ None → (Rose (O.faults output.old) (O.faults output.new) → ⊥) → (result ≡ Status.Ok) ⊎ (result ≡ Status.NoMemory) }
+    ensures node { (n : NodeWords) → command ≡ Command.Node n → NodeEnd (record { meaning = keeping; settings = settings_of n; disk = M.Disk; told = M.Disk.told; remembers = M.Disk.remembers; cells = M.Disk.cells; moment = M.Disk.moment; left_since = M.Disk.left_since; images = images_at (M.cells room.old) n.dir n.id; left_before = I.left input.old; left_after = I.left input.new; written_before = O.written output.old; written_after = O.written output.new; sink = T.Sink; text_of = T.Sink.written; trails = record { before = T.kept trails.old; after = T.kept trails.new; taken_before = T.taken trails.old; taken_after = T.taken trails.new } }) (record { before = M.cells room.old; after = M.cells room.new; taken_before = M.taken room.old; taken_after = M.taken room.new }) result }
+    ensures complete_node { (n : NodeWords) → command ≡ Command.Node n → IsFrames (I.left input.old) → M.Disk.told → HaveMeaning n (images_at (M.cells room.old) n.dir n.id) → (Rose (I.faults input.old) (I.faults input.new) → ⊥) → (Rose (O.faults output.old) (O.faults output.new) → ⊥) → (Rose (T.faults trails.old) (T.faults trails.new) → ⊥) → (Rose (M.faults room.old) (M.faults room.new) → ⊥) → (result ≡ Status.Ok) ⊎ (result ≡ Status.NoMemory) }
+    ensures group { (g : GroupWords) → command ≡ Command.Group g → (input.new ≡ input.old) × GroupEnded g (λ settings. record { meaning = counting; settings = settings; disk = M.Disk; told = M.Disk.told; remembers = M.Disk.remembers; cells = M.Disk.cells; moment = M.Disk.moment; left_since = M.Disk.left_since; images = λ member. images_at (M.cells room.old) settings.dir member; written_before = O.written output.old; written_after = O.written output.new; wants_before = O.wants output.old; wants_after = O.wants output.new; sink = T.Sink; text_of = T.Sink.written; room = record { before = M.cells room.old; after = M.cells room.new; taken_before = M.taken room.old; taken_after = M.taken room.new }; trails = record { before = T.kept trails.old; after = T.kept trails.new; taken_before = T.taken trails.old; taken_after = T.taken trails.new } }) (O.written output.old) (O.written output.new) result }
+    ensures complete_group { (g : GroupWords) → command ≡ Command.Group g → M.Disk.told → AllHaveMeaning g (images_at (M.cells room.old)) → (Rose (O.faults output.old) (O.faults output.new) → ⊥) → (Rose (T.faults trails.old) (T.faults trails.new) → ⊥) → (Rose (M.faults room.old) (M.faults room.new) → ⊥) → IsPlayed result }
+    ensures fresh { (g : GroupWords) → command ≡ Command.Group g → result ≡ Status.Ok → GroupAgreed g (λ settings. record { meaning = counting; settings = settings; disk = M.Disk; told = M.Disk.told; remembers = M.Disk.remembers; cells = M.Disk.cells; moment = M.Disk.moment; left_since = M.Disk.left_since; images = λ member. images_at (M.cells room.old) settings.dir member; written_before = O.written output.old; written_after = O.written output.new; wants_before = O.wants output.old; wants_after = O.wants output.new; sink = T.Sink; text_of = T.Sink.written; room = record { before = M.cells room.old; after = M.cells room.new; taken_before = M.taken room.old; taken_after = M.taken room.new }; trails = record { before = T.kept trails.old; after = T.kept trails.new; taken_before = T.taken trails.old; taken_after = T.taken trails.new } }) }
+    ensures apart { ((n : NodeWords) → command ≡ Command.Node n → ⊥) → ((g : GroupWords) → command ≡ Command.Group g → ⊥) → (room.new ≡ room.old) × ((clock.new ≡ clock.old) × (trails.new ≡ trails.old)) }
+    ensures audit { command ≡ Command.Audit → AuditEnd (I.left input.old) (I.left input.new) (O.written output.old) (O.written output.new) (O.wants output.old) (O.wants output.new) result }
+    ensures complete_audit { command ≡ Command.Audit → IsTrails (I.left input.old) → (Rose (I.faults input.old) (I.faults input.new) → ⊥) → (Rose (O.faults output.old) (O.faults output.new) → ⊥) → IsJudged result }
     ensures read { result ≡ Status.ReadFault → Rose (I.faults input.old) (I.faults input.new) }
     ensures write { result ≡ Status.WriteFault → Rose (O.faults output.old) (O.faults output.new) }
     ensures trail { result ≡ Status.TrailFault → Rose (T.faults trails.old) (T.faults trails.new) }
     ensures disk { result ≡ Status.DiskFault → Rose (M.faults room.old) (M.faults room.new) }
 {
-    match read_words(alloc, words) {
-        Ok(Command::World) => play_script(alloc, input, output),
-        Ok(Command::Load { count }) => load(alloc, count, output),
-        Ok(Command::Node(words)) => node(
-            rt, alloc, words, input, output, room, clock, trails, gate,
-        ),
-        Ok(Command::Group(words)) => group(rt, alloc, words, output, room, clock, trails, gate),
-        Ok(Command::Audit) => audit(alloc, input, output),
-        Err(NoCommand::Shown(text)) => {
-            let _ = write_all(errors, text.as_bytes());
-            Status::Words
-        }
-        Err(NoCommand::Wrong) => Status::Words,
-        Err(NoCommand::NoMemory) => Status::NoMemory,
+    match command {
+        Command::World => play_script(alloc, input, output),
+        Command::Load { count } => load(alloc, count, output),
+        Command::Node(words) => node(rt, alloc, words, input, output, room, clock, trails, gate),
+        Command::Group(words) => group(rt, alloc, words, output, room, clock, trails, gate),
+        Command::Audit => audit(alloc, input, output),
     }
 }
 
@@ -246,6 +235,7 @@ where
 ///
 /// The premises are checked. A crash with another image ends the play. A forged statement, a
 /// collision of digests, and one faulty member of a view too many end it too.
+#[tactic(auto, using(crate::proofs::Ending::unread_run, crate::proofs::Loading::unread_load, crate::proofs::Auditing::unread_audit, crate::proofs::Noding::unread_node))]
 pub fn run<
     H: Threads + Wait + Sync,
     I: Source + Send,
@@ -304,9 +294,24 @@ where
     ensures trail { result ≡ Status.TrailFault → Rose (T.faults trails.old) (T.faults trails.new) }
     ensures disk { result ≡ Status.DiskFault → Rose (M.faults room.old) (M.faults room.new) }
 {
-    let status = obey(
-        rt, alloc, words, input, output, errors, room, clock, trails, gate,
-    );
-    report(alloc, errors, status);
-    status
+    match read_words(alloc, words) {
+        Ok(command) => {
+            let status = obey(rt, alloc, command, input, output, room, clock, trails, gate);
+            report(alloc, errors, status);
+            status
+        }
+        Err(NoCommand::Shown(text)) => {
+            let _ = write_all(errors, text.as_bytes());
+            report(alloc, errors, Status::Words);
+            Status::Words
+        }
+        Err(NoCommand::Wrong) => {
+            report(alloc, errors, Status::Words);
+            Status::Words
+        }
+        Err(NoCommand::NoMemory) => {
+            report(alloc, errors, Status::NoMemory);
+            Status::NoMemory
+        }
+    }
 }

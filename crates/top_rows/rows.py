@@ -1,0 +1,28 @@
+#!/usr/bin/env python3
+"""Makes the rows in stdin and what is to be said of them in stdout. Run it in crates/top_rows: `./rows.py` writes both files,
+and `./rows.py check` compares them.
+
+Nothing of the repository's code or definitions is used. lives.py has the lives of a member, runs.py the other runs, audits.py the
+audits of trails. What is to be said is written there by hand, row by row.
+"""
+import pathlib, sys
+
+sys.dont_write_bytecode = True
+import page
+
+# Each adds its rows.
+import lives, runs, audits
+
+
+def main():
+    for name, lines in (("stdin", page.STDIN), ("stdout", page.STDOUT)):
+        made = "\n".join(lines) + "\n"
+        path = pathlib.Path(name)
+        if sys.argv[1:] == ["check"]:
+            if path.read_text() != made:
+                sys.exit(f"{name}: not as rows.py makes it")
+        else:
+            path.write_text(made)
+
+
+main()
