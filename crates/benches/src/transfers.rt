@@ -38,11 +38,17 @@ pub struct TakenOver {
     pub state: usize,
 }
 
-/// The snapshot of a replica whose state has so many bytes.
-fn snapshot(alloc: Global, size: u32) -> Result<Bytes, AllocError> {
+/// What stands before the state of a replica, with room for a state of so many bytes.
+fn headed(alloc: Global, size: u32) -> Result<Vec<u8>, AllocError> {
     let mut out = Vec::with_capacity(alloc, HEAD.len() + 4 + size as usize)?;
     out.extend_from_slice(&HEAD)?;
     put_u32(&mut out, size)?;
+    Ok(out)
+}
+
+/// The snapshot of a replica whose state has so many bytes.
+fn snapshot(alloc: Global, size: u32) -> Result<Bytes, AllocError> {
+    let mut out = headed(alloc, size)?;
     for number in 0..size {
         out.push((number % 251) as u8)?;
     }

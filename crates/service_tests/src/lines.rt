@@ -14,9 +14,9 @@ fn fault(rt: &impl Abort, alloc: Global, bytes: &[u8]) -> Option<Kind> {
     Some(kind.expect(rt, "there is memory"))
 }
 
-/// The least and the greatest numbers of each word, and numbers past them.
+/// The least and the greatest numbers of each word.
 #[test]
-fn numbers_have_limits(rt: HostRuntime) {
+fn numbers_at_their_limits_are_read(rt: HostRuntime) {
     let alloc = rt.alloc();
     for line in [
         "ask 1024 5",
@@ -47,6 +47,12 @@ fn numbers_have_limits(rt: HostRuntime) {
     ] {
         assert_eq!(rt; fault(&rt, alloc, line.as_bytes()), None, "{line}");
     }
+}
+
+/// Numbers past the least and the greatest of each word.
+#[test]
+fn numbers_past_their_limits_are_refused(rt: HostRuntime) {
+    let alloc = rt.alloc();
     for line in [
         "ask 0 5",
         "ask 1025 5",

@@ -1,5 +1,5 @@
-//! Plays lives of a member, other runs, and audits, one a line of the input, and says how each ends and what
-//! it leaves.
+//! Plays the scripts of its folder, and says whether their transcripts are those of the files there. Then it plays lives
+//! of a member, other runs, and audits, one a line of the input, and says how each ends and what it leaves.
 #![tactic(auto)]
 
 mod case;
@@ -11,6 +11,7 @@ mod gates;
 mod life;
 mod rooms;
 mod runs;
+mod scripts;
 mod signs;
 mod steps;
 mod verdict;
@@ -20,7 +21,9 @@ use crate::fault::RowFault;
 use crate::fronts::say_fronts;
 use crate::rooms::Rooms;
 use crate::runs::say_status;
+use crate::scripts::play_scripts;
 use crate::verdict::say_whole;
+use std::process::ExitCode;
 use std::sync::Wait;
 use std::thread::Threads;
 
@@ -58,12 +61,16 @@ fn play<R: Threads + Wait + Sync>(
     }
 }
 
-fn main(rt: HostRuntime) -> Result<(), RowFault> {
+fn main(rt: HostRuntime) -> Result<ExitCode, RowFault> {
+    let status = match play_scripts(&rt, &rt)? {
+        true => ExitCode::SUCCESS,
+        false => ExitCode::FAILURE,
+    };
     let mut rooms = Rooms::new(rt.alloc());
     for row in rt.lines(rt.alloc()) {
         let row = row?;
         repeat(&rt, row.as_str())?;
         play(&rt, &rt, &mut rooms, row.as_str())?;
     }
-    Ok(())
+    Ok(status)
 }
